@@ -1,0 +1,228 @@
+-- What an entry does to the settings, from document 01, section "The settings sheet": "tag not allowed here by the order of fields, however
+-- many there are (33); value out of range (34); id used before (35); ninth network or fifth controller (36); PN without transceiver (37)".
+-- Each definition runs its tests in that order.
+use Prim.Native.Nat.{ℕ, _+_}
+use mathlib.Core.Bool.{Bool, true, false, cond}
+use lib.Dec.{eqb, leb}
+use lib.ListN.{replicate, set}
+use Rattle.settings.specs.declared.Transceiver.{Transceiver}
+use Rattle.settings.specs.declared.Transceiver.the-variants.{Absent, Present}
+use Rattle.settings.specs.declared.Network.{Network}
+use Rattle.settings.specs.declared.Settings.{Settings}
+use Rattle.settings.specs.declared.Id.the-variants.{OfNetwork, OfController, OfTransceiver}
+use Rattle.settings.specs.Settings.{mostNetworks, mostControllers, controllerIds, transceiverIds, thresholds, networksOf, has, used}
+use Rattle.entries.specs.declared.Fault.{Fault}
+use Rattle.entries.specs.declared.Fault.the-variants.{Cut, OutOfOrder, OutOfRange, UsedBefore, TooMany, NoTransceiver}
+use Rattle.entries.specs.declared.Entry.{Entry}
+use Rattle.entries.specs.declared.Entry.the-variants.{End, Bad}
+use Rattle.entries.specs.declared.Phase.{Phase}
+use Rattle.entries.specs.declared.Phase.the-variants.{Named, Listed, Fitted, Timed, Limited}
+use Rattle.entries.specs.declared.Opening.{Opening}
+use Rattle.entries.specs.declared.Opening.the-variants.{Closes, Begins, Refuses}
+use Rattle.entries.specs.declared.Move.{Move}
+use Rattle.entries.specs.declared.Move.the-variants.{More, Whole}
+use Rattle.entries.specs.declared.Moved.{Moved}
+
+-- ---- where a network may begin: field 01, or the end
+
+unfoldable pub opensWith : Settings → ℕ → Opening
+opensWith s handle =
+    cond (used (OfNetwork handle) (networksOf s)) (Refuses UsedBefore)
+    (cond (leb mostNetworks (s .count)) (Refuses TooMany)
+    (Begins handle))
+
+unfoldable pub opens : Settings → Entry → Opening
+opens s End = Closes
+opens s (Bad fault) = Refuses fault
+opens s (Entry.Handle handle) = opensWith s handle
+opens s (Entry.Controller id) = Refuses OutOfOrder
+opens s (Entry.Transceiver id) = Refuses OutOfOrder
+opens s (Entry.Times short long ensure) = Refuses OutOfOrder
+opens s (Entry.Threshold x) = Refuses OutOfOrder
+opens s (Entry.Partial x) = Refuses OutOfOrder
+
+-- a network that has its handle
+unfoldable pub begun : ℕ → Network
+begun handle =
+    record { handle = handle; controllers = replicate mostControllers 0; count = 0; transceiver = Absent; short = 0; long = 0; ensure = 0; threshold = 0; partial = false }
+
+-- ---- the order of fields: 01, then one to four 02, then 03 or none, then 04, 05 and 06
+
+abbrev pub takesController : Phase → Bool
+takesController Named = true
+takesController Listed = true
+takesController Fitted = false
+takesController Timed = false
+takesController Limited = false
+
+abbrev pub takesTransceiver : Phase → Bool
+takesTransceiver Named = false
+takesTransceiver Listed = true
+takesTransceiver Fitted = false
+takesTransceiver Timed = false
+takesTransceiver Limited = false
+
+abbrev pub takesTimes : Phase → Bool
+takesTimes Named = false
+takesTimes Listed = true
+takesTimes Fitted = true
+takesTimes Timed = false
+takesTimes Limited = false
+
+abbrev pub takesThreshold : Phase → Bool
+takesThreshold Named = false
+takesThreshold Listed = false
+takesThreshold Fitted = false
+takesThreshold Timed = true
+takesThreshold Limited = false
+
+abbrev pub takesPartial : Phase → Bool
+takesPartial Named = false
+takesPartial Listed = false
+takesPartial Fitted = false
+takesPartial Timed = false
+takesPartial Limited = true
+
+-- ---- each field in a network
+
+abbrev pub refused : Fault → Network → Moved
+refused fault n = record { to = Move.Refused fault; network = n }
+
+abbrev pub more : Phase → Network → Moved
+more phase n = record { to = More phase; network = n }
+
+abbrev pub whole : Network → Moved
+whole n = record { to = Whole; network = n }
+
+unfoldable pub withController : Network → ℕ → Network
+withController n id =
+    record {
+      handle = n .handle;
+      controllers = set (n .controllers) (n .count) id;
+      count = n .count + 1;
+      transceiver = n .transceiver;
+      short = n .short;
+      long = n .long;
+      ensure = n .ensure;
+      threshold = n .threshold;
+      partial = n .partial;
+    }
+
+-- "controller id, 0 to 31; one to four such fields"
+unfoldable pub onController : Settings → Network → Phase → ℕ → Moved
+onController s n phase id =
+    cond (takesController phase)
+    (cond (leb controllerIds id) (refused OutOfRange n)
+    (cond (used (OfController id) (networksOf s)) (refused UsedBefore n)
+    (cond (has (OfController id) n) (refused UsedBefore n)
+    (cond (leb mostControllers (n .count)) (refused TooMany n)
+    (more Listed (withController n id))))))
+    (refused OutOfOrder n)
+
+unfoldable pub withTransceiver : Network → ℕ → Network
+withTransceiver n id =
+    record {
+      handle = n .handle;
+      controllers = n .controllers;
+      count = n .count;
+      transceiver = Present id;
+      short = n .short;
+      long = n .long;
+      ensure = n .ensure;
+      threshold = n .threshold;
+      partial = n .partial;
+    }
+
+-- "transceiver id, 0 to 7; may be absent"
+unfoldable pub onTransceiver : Settings → Network → Phase → ℕ → Moved
+onTransceiver s n phase id =
+    cond (takesTransceiver phase)
+    (cond (leb transceiverIds id) (refused OutOfRange n)
+    (cond (used (OfTransceiver id) (networksOf s)) (refused UsedBefore n)
+    (more Fitted (withTransceiver n id))))
+    (refused OutOfOrder n)
+
+unfoldable pub withTimes : Network → ℕ → ℕ → ℕ → Network
+withTimes n short long ensure =
+    record {
+      handle = n .handle;
+      controllers = n .controllers;
+      count = n .count;
+      transceiver = n .transceiver;
+      short = short;
+      long = long;
+      ensure = ensure;
+      threshold = n .threshold;
+      partial = n .partial;
+    }
+
+-- "short delay L1, long delay L2, ensure time, in ticks, two bytes each, 1 to 65,535"
+unfoldable pub onTimes : Network → Phase → ℕ → ℕ → ℕ → Moved
+onTimes n phase short long ensure =
+    cond (takesTimes phase)
+    (cond (eqb short 0) (refused OutOfRange n)
+    (cond (eqb long 0) (refused OutOfRange n)
+    (cond (eqb ensure 0) (refused OutOfRange n)
+    (more Timed (withTimes n short long ensure)))))
+    (refused OutOfOrder n)
+
+unfoldable pub withThreshold : Network → ℕ → Network
+withThreshold n threshold =
+    record {
+      handle = n .handle;
+      controllers = n .controllers;
+      count = n .count;
+      transceiver = n .transceiver;
+      short = n .short;
+      long = n .long;
+      ensure = n .ensure;
+      threshold = threshold;
+      partial = n .partial;
+    }
+
+-- "threshold, 0 to 254"
+unfoldable pub onThreshold : Network → Phase → ℕ → Moved
+onThreshold n phase threshold =
+    cond (takesThreshold phase)
+    (cond (leb thresholds threshold) (refused OutOfRange n)
+    (more Limited (withThreshold n threshold)))
+    (refused OutOfOrder n)
+
+unfoldable pub withPartial : Network → Bool → Network
+withPartial n partial =
+    record {
+      handle = n .handle;
+      controllers = n .controllers;
+      count = n .count;
+      transceiver = n .transceiver;
+      short = n .short;
+      long = n .long;
+      ensure = n .ensure;
+      threshold = n .threshold;
+      partial = partial;
+    }
+
+abbrev pub present : Transceiver → Bool
+present Absent = false
+present (Present id) = true
+
+-- "partial networking (PN), 0 or 1; 1 needs field 03"
+unfoldable pub onPartial : Network → Phase → ℕ → Moved
+onPartial n phase x =
+    cond (takesPartial phase)
+    (cond (eqb x 0) (whole (withPartial n false))
+    (cond (eqb x 1)
+    (cond (present (n .transceiver)) (whole (withPartial n true)) (refused NoTransceiver n))
+    (refused OutOfRange n)))
+    (refused OutOfOrder n)
+
+-- what an entry does to an unfinished network; "At the end .. an unfinished one 30"
+unfoldable pub goesOn : Settings → Network → Phase → Entry → Moved
+goesOn s n phase End = refused Cut n
+goesOn s n phase (Bad fault) = refused fault n
+goesOn s n phase (Entry.Handle handle) = refused OutOfOrder n
+goesOn s n phase (Entry.Controller id) = onController s n phase id
+goesOn s n phase (Entry.Transceiver id) = onTransceiver s n phase id
+goesOn s n phase (Entry.Times short long ensure) = onTimes n phase short long ensure
+goesOn s n phase (Entry.Threshold threshold) = onThreshold n phase threshold
+goesOn s n phase (Entry.Partial x) = onPartial n phase x

@@ -1,0 +1,116 @@
+// The fields of a sheet one by one: the tests that need no settings.
+use crate::Entry;
+use crate::Fault;
+use crate::Found;
+use crate::Layout;
+use fields::Field;
+ghost use mathlib.Core.Path.{_≡_};
+ghost use Prim.Native.Nat.{_+_, _≤_};
+ghost use lib.ListN.{length, take, drop};
+ghost use Rattle.fields.specs.Fields.{front, rowAt};
+ghost use Rattle.entries.specs.Entries.{layoutOf, byteEntry, timesEntry, overrunFault, entryOf, entryAt, nextOf};
+
+// The tag is known and the length is that of the tag.
+pub fn layout_of(tag: u8, length: u16) -> Layout
+    ensures { λ r. ⌜ r ≡ layoutOf tag length ⌝ }
+{
+    if tag == Entry::TIMES_TAG {
+        if length != Entry::TIMES_LENGTH {
+            return Layout::Wrong;
+        }
+        return Layout::Times;
+    }
+    if tag < Entry::HANDLE_TAG {
+        return Layout::Unknown;
+    }
+    if Entry::PARTIAL_TAG < tag {
+        return Layout::Unknown;
+    }
+    if length != Entry::BYTE_LENGTH {
+        return Layout::Wrong;
+    }
+    Layout::Byte
+}
+
+// A field whose value is one byte.
+pub fn byte_entry(tag: u8, value: u8) -> Entry
+    ensures { λ r. ⌜ r ≡ byteEntry tag value ⌝ }
+{
+    if tag == Entry::HANDLE_TAG {
+        return Entry::Handle(value);
+    }
+    if tag == Entry::CONTROLLER_TAG {
+        return Entry::Controller(value);
+    }
+    if tag == Entry::TRANSCEIVER_TAG {
+        return Entry::Transceiver(value);
+    }
+    if tag == Entry::THRESHOLD_TAG {
+        return Entry::Threshold(value);
+    }
+    Entry::Partial(value)
+}
+
+// The field of the times, whose value begins at a place.
+fn times_entry(bytes: &[u8], at: usize) -> Entry
+    requires { ⌜ at + 6 ≤ length (now bytes) ⌝ }
+    ensures { λ r. ⌜ r ≡ timesEntry (take 6 (drop at (now (bytes .entry)))) ⌝ }
+{
+    Entry::Times {
+        short: fields::number(bytes[at], bytes[at + 1]),
+        long: fields::number(bytes[at + 2], bytes[at + 3]),
+        ensure: fields::number(bytes[at + 4], bytes[at + 5]),
+    }
+}
+
+// A field whose value runs past the end.
+fn overrun_fault(tag: u8, length: u16) -> Fault
+    ensures { λ r. ⌜ r ≡ overrunFault (layoutOf tag length) ⌝ }
+{
+    match layout_of(tag, length) {
+        Layout::Unknown => Fault::UnknownTag,
+        Layout::Wrong => Fault::WrongLength,
+        Layout::Byte => Fault::Cut,
+        Layout::Times => Fault::Cut,
+    }
+}
+
+// A whole field, whose value begins at a place.
+fn whole_entry(bytes: &[u8], at: usize, tag: u8, length: u16) -> Entry
+    requires { ⌜ at + length ≤ lib.ListN.length (now bytes) ⌝ }
+    ensures { λ r. ⌜ r ≡ entryOf tag (take length (drop at (now (bytes .entry)))) ⌝ }
+{
+    match layout_of(tag, length) {
+        Layout::Unknown => Entry::Bad(Fault::UnknownTag),
+        Layout::Wrong => Entry::Bad(Fault::WrongLength),
+        Layout::Byte => byte_entry(tag, bytes[at]),
+        Layout::Times => times_entry(bytes, at),
+    }
+}
+
+// What stands at a place of a sheet.
+pub fn entry_at(bytes: &[u8], at: usize) -> Found
+    ensures { λ r. ⌜ (r .entry ≡ entryAt (rowAt (now (bytes .entry)) at)) × (r .next ≡ nextOf (front at (drop at (now (bytes .entry)))) at) ⌝ }
+{
+    match fields::field_at(bytes, at) {
+        Field::End => Found {
+            entry: Entry::End,
+            next: at,
+        },
+        Field::Stub { tag: _ } => Found {
+            entry: Entry::Bad(Fault::Cut),
+            next: at,
+        },
+        Field::Overrun { tag, length } => {
+            let fault = overrun_fault(tag, length);
+            Found {
+                entry: Entry::Bad(fault),
+                next: at,
+            }
+        }
+        Field::Whole { tag, length, next } => {
+            let entry = whole_entry(bytes, at + Field::HEAD, tag, length);
+            Found { entry, next }
+        }
+    }
+}

@@ -1,0 +1,62 @@
+-- The layout of fields, from document 01, section "The settings sheet": one byte tag, two bytes length, high byte first, the value.
+-- The row of fields that bytes are serves the sheet, the events and every other input of this layout. Which tags there are, and
+-- how long their values have to be, is left to those who read the row.
+use Prim.Native.Nat.{ℕ, zero, suc, _+_, _*_, _/_, _%_}
+use mathlib.Core.List.{List, [], _∷_, _++_}
+use mathlib.Core.Bool.{Bool, true, false, cond}
+use lib.ListN.{length, take, drop}
+use Rattle.fields.specs.declared.Field.{Field}
+use Rattle.fields.specs.declared.Field.the-variants.{End, Stub, Overrun, Whole}
+
+-- there are at least n bytes
+unfoldable pub holds : ℕ → List ℕ → Bool
+holds zero l = true
+holds (suc n) [] = false
+holds (suc n) (b ∷ l) = holds n l
+
+-- a field with its tag, the length as written, and the bytes that follow the length
+unfoldable pub measured : ℕ → ℕ → ℕ → List ℕ → Field
+measured at tag n v = cond (holds n v) (Whole tag n (at + 3 + n)) (Overrun tag n)
+
+-- the field at the front of the unread bytes, which begin at a place
+unfoldable pub front : ℕ → List ℕ → Field
+front at [] = End
+front at (tag ∷ []) = Stub tag
+front at (tag ∷ high ∷ []) = Stub tag
+front at (tag ∷ high ∷ low ∷ v) = measured at tag (high * 256 + low) v
+
+-- "A sheet is a row of fields": each with its place, its tag and its value; the row ends at the end of the bytes, at one or two bytes
+-- that are left, or at a field whose value runs past the end
+pub data Row : Type 0 where
+  stop : ℕ → Row
+  stub : ℕ → ℕ → Row
+  overrun : ℕ → ℕ → ℕ → Row
+  field : ℕ → ℕ → List ℕ → Row → Row
+
+-- a field at a place, given the bytes after its length, before the rest of its row
+unfoldable pub onto : ℕ → Field → List ℕ → Row → Row
+onto at End v rest = stop at
+onto at (Stub tag) v rest = stub at tag
+onto at (Overrun tag n) v rest = overrun at tag n
+onto at (Whole tag n next) v rest = field at tag (take n v) rest
+
+-- how many bytes of a field follow its tag
+unfoldable pub past : Field → ℕ
+past End = 0
+past (Stub tag) = 0
+past (Overrun tag n) = 0
+past (Whole tag n next) = 2 + n
+
+-- the row of the bytes after the first k, which lie in a field that was read; by recursion on the bytes
+unfoldable pub rows : ℕ → ℕ → List ℕ → Row
+rows k at [] = stop at
+rows (suc k) at (b ∷ l) = rows k (at + 1) l
+rows zero at (b ∷ l) = onto at (front at (b ∷ l)) (drop 2 l) (rows (past (front at (b ∷ l))) (at + 1) l)
+
+-- the row of the bytes from a place on
+abbrev pub rowAt : List ℕ → ℕ → Row
+rowAt s at = rows 0 at (drop at s)
+
+-- a field as bytes: the tag, the length of its value in two bytes, the value; then what follows it
+abbrev pub fieldBytes : ℕ → List ℕ → List ℕ → List ℕ
+fieldBytes tag v rest = tag ∷ length v / 256 ∷ length v % 256 ∷ (v ++ rest)

@@ -1,0 +1,1 @@
+// No code: definitions and laws on lists that several crates need.

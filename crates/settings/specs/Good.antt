@@ -1,0 +1,61 @@
+-- Settings that a sheet can say: every range of the table in document 01, section "The settings sheet", and "Handles, controller ids and
+-- transceiver ids are each used once in the whole sheet". Unused slots are blank, so that settings have one form.
+use Prim.Native.Nat.{ℕ, _<_, _≤_}
+use mathlib.Core.Path.{_≡_}
+use mathlib.Core.List.{List, [], _∷_, _++_}
+use mathlib.Core.Bool.{Bool, true, false}
+use lib.ListN.{length}
+use Rattle.lists.specs.Lists.{padded}
+use Rattle.settings.specs.declared.Transceiver.{Transceiver}
+use Rattle.settings.specs.declared.Transceiver.the-variants.{Absent, Present}
+use Rattle.settings.specs.declared.Network.{Network}
+use Rattle.settings.specs.declared.Settings.{Settings}
+use Rattle.settings.specs.Settings.{mostNetworks, mostControllers, controllerIds, transceiverIds, thresholds, blankNetwork, networksOf, handlesOf, controllersOf, transceiversOf, member}
+
+-- each of a list is below a limit
+unfoldable pub Below : ℕ → List ℕ → Type 0
+Below limit [] = Unit
+Below limit (x ∷ l) = (x < limit) × Below limit l
+
+-- each of a list is none of those before it, of which some stand in an earlier list
+unfoldable pub Fresh : List ℕ → List ℕ → Type 0
+Fresh earlier [] = Unit
+Fresh earlier (x ∷ l) = (member x earlier ≡ false) × Fresh (earlier ++ (x ∷ [])) l
+
+-- "used once": the numbers of a list are pairwise different
+abbrev pub Distinct : List ℕ → Type 0
+Distinct l = Fresh [] l
+
+-- the ids of one kind over all networks, in the order of the sheet
+unfoldable pub all : (Network → List ℕ) → List Network → List ℕ
+all ids [] = []
+all ids (n ∷ ns) = ids n ++ all ids ns
+
+-- the table's ranges, of one network
+pub record InRange (n : Network) : Type 0 where
+  pub handle : n .handle < 256
+  pub some-controller : 0 < n .count
+  pub few-controllers : n .count ≤ mostControllers
+  pub blank-slots : n .controllers ≡ padded mostControllers 0 (controllersOf n)
+  pub controllers : Below controllerIds (controllersOf n)
+  pub transceiver : Below transceiverIds (transceiversOf n)
+  pub short : (0 < n .short) × (n .short < 65536)
+  pub long : (0 < n .long) × (n .long < 65536)
+  pub ensure : (0 < n .ensure) × (n .ensure < 65536)
+  pub threshold : n .threshold < thresholds
+  -- partial networking needs a transceiver
+  pub partial : n .partial ≡ true → n .transceiver ≡ Absent → ⊥
+
+unfoldable pub EachInRange : List Network → Type 0
+EachInRange [] = Unit
+EachInRange (n ∷ ns) = InRange n × EachInRange ns
+
+-- settings that a sheet can say
+pub record Good (s : Settings) : Type 0 where
+  pub some-network : 0 < s .count
+  pub few-networks : s .count ≤ mostNetworks
+  pub blank-slots : s .networks ≡ padded mostNetworks blankNetwork (networksOf s)
+  pub in-range : EachInRange (networksOf s)
+  pub handles : Distinct (all handlesOf (networksOf s))
+  pub controllers : Distinct (all controllersOf (networksOf s))
+  pub transceivers : Distinct (all transceiversOf (networksOf s))

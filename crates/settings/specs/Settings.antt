@@ -1,0 +1,80 @@
+-- What the settings say, from document 01, section "The settings sheet": which ids a network has, and who has an id.
+-- What an array holds past its count is blank and means nothing: all meaning is through `controllersOf` and `networksOf`.
+use Prim.Native.Nat.{ℕ}
+use mathlib.Core.List.{List, [], _∷_}
+use mathlib.Core.Bool.{Bool, true, false, cond}
+use lib.Dec.{eqb}
+use lib.ListN.{take, replicate}
+use Rattle.lists.specs.Lists.{any, first}
+use Rattle.settings.specs.declared.Transceiver.{Transceiver}
+use Rattle.settings.specs.declared.Transceiver.the-variants.{Absent, Present}
+use Rattle.settings.specs.declared.Network.{Network}
+use Rattle.settings.specs.declared.Settings.{Settings}
+use Rattle.settings.specs.declared.Id.{Id}
+use Rattle.settings.specs.declared.Id.the-variants.{OfNetwork, OfController, OfTransceiver}
+use Rattle.settings.specs.declared.Holder.{Holder}
+use Rattle.settings.specs.declared.Holder.the-variants.{At, Nobody}
+
+-- "1 to 8 CAN networks", "one to four such fields"
+abbrev pub mostNetworks : ℕ
+mostNetworks = 8
+
+abbrev pub mostControllers : ℕ
+mostControllers = 4
+
+-- ids and thresholds are below these: "controller id, 0 to 31", "transceiver id, 0 to 7", "threshold, 0 to 254"
+abbrev pub controllerIds : ℕ
+controllerIds = 32
+
+abbrev pub transceiverIds : ℕ
+transceiverIds = 8
+
+abbrev pub thresholds : ℕ
+thresholds = 255
+
+unfoldable pub blankNetwork : Network
+blankNetwork =
+    record { handle = 0; controllers = replicate mostControllers 0; count = 0; transceiver = Absent; short = 0; long = 0; ensure = 0; threshold = 0; partial = false }
+
+unfoldable pub blankSettings : Settings
+blankSettings = record { networks = replicate mostNetworks blankNetwork; count = 0 }
+
+-- the networks, in the order of the sheet
+abbrev pub networksOf : Settings → List Network
+networksOf s = take (s .count) (s .networks)
+
+-- the ids of a network, a list for each kind; "the order of controllers in the sheet is the order of requests"
+abbrev pub handlesOf : Network → List ℕ
+handlesOf n = n .handle ∷ []
+
+abbrev pub controllersOf : Network → List ℕ
+controllersOf n = take (n .count) (n .controllers)
+
+abbrev pub listed : Transceiver → List ℕ
+listed Absent = []
+listed (Present x) = x ∷ []
+
+abbrev pub transceiversOf : Network → List ℕ
+transceiversOf n = listed (n .transceiver)
+
+-- a number is one of a list
+abbrev pub member : ℕ → List ℕ → Bool
+member x l = any (λ (y : ℕ). eqb y x) l
+
+abbrev pub hasTransceiver : Transceiver → ℕ → Bool
+hasTransceiver Absent x = false
+hasTransceiver (Present y) x = eqb y x
+
+-- a network has an id
+abbrev pub has : Id → Network → Bool
+has (OfNetwork x) n = eqb (n .handle) x
+has (OfController x) n = member x (controllersOf n)
+has (OfTransceiver x) n = hasTransceiver (n .transceiver) x
+
+-- some network has an id: "used once in the whole sheet" is about this
+unfoldable pub used : Id → List Network → Bool
+used id ns = any (has id) ns
+
+-- the first network that has an id
+unfoldable pub holderOf : Id → List Network → Holder
+holderOf id ns = cond (any (has id) ns) (At (first (has id) ns)) Nobody

@@ -1,0 +1,6 @@
+pub mod Steps
+pub mod Writes
+pub mod WriteThenRead
+pub mod ReadThenWrite
+pub mod SheetBytes
+pub mod Theorems

@@ -1,0 +1,51 @@
+-- The sheet that settings have, from the table of document 01, section "The settings sheet". Each part is written before what follows it.
+use Prim.Native.Nat.{ℕ, _/_, _%_}
+use mathlib.Core.List.{List, [], _∷_}
+use mathlib.Core.Bool.{Bool, true, false}
+use Rattle.fields.specs.Fields.{fieldBytes}
+use Rattle.settings.specs.declared.Transceiver.{Transceiver}
+use Rattle.settings.specs.declared.Transceiver.the-variants.{Absent, Present}
+use Rattle.settings.specs.declared.Network.{Network}
+use Rattle.settings.specs.declared.Settings.{Settings}
+use Rattle.settings.specs.Settings.{networksOf, controllersOf}
+
+-- a field of one byte
+abbrev pub byteField : ℕ → ℕ → List ℕ → List ℕ
+byteField tag x l = fieldBytes tag (x ∷ []) l
+
+-- field 04: three numbers of two bytes, the high byte first
+abbrev pub timesField : ℕ → ℕ → ℕ → List ℕ → List ℕ
+timesField short long ensure l =
+    fieldBytes 0x04 (short / 256 ∷ short % 256 ∷ long / 256 ∷ long % 256 ∷ ensure / 256 ∷ ensure % 256 ∷ []) l
+
+-- a field 02 for each controller
+unfoldable pub encodeControllers : List ℕ → List ℕ → List ℕ
+encodeControllers [] l = l
+encodeControllers (id ∷ ids) l = byteField 0x02 id (encodeControllers ids l)
+
+-- field 03, which may be absent
+unfoldable pub encodeTransceiver : Transceiver → List ℕ → List ℕ
+encodeTransceiver Absent l = l
+encodeTransceiver (Present id) l = byteField 0x03 id l
+
+abbrev pub bit : Bool → ℕ
+bit false = 0
+bit true = 1
+
+-- "A network is these fields in this order"
+unfoldable pub encodeNetwork : Network → List ℕ → List ℕ
+encodeNetwork n l =
+    byteField 0x01 (n .handle)
+    (encodeControllers (controllersOf n)
+    (encodeTransceiver (n .transceiver)
+    (timesField (n .short) (n .long) (n .ensure)
+    (byteField 0x05 (n .threshold)
+    (byteField 0x06 (bit (n .partial)) l)))))
+
+unfoldable pub encodeNetworks : List Network → List ℕ → List ℕ
+encodeNetworks [] l = l
+encodeNetworks (n ∷ ns) l = encodeNetwork n (encodeNetworks ns l)
+
+-- the sheet of settings
+unfoldable pub encode : Settings → List ℕ
+encode s = encodeNetworks (networksOf s) []

@@ -1,0 +1,83 @@
+-- What reading a sheet gives, from document 01, section "The settings sheet": "A sheet is one network and then a sheet or its end."
+-- By recursion on the row of fields, as the bytes give it.
+use Prim.Native.Nat.{ℕ, _+_}
+use mathlib.Core.List.{List}
+use mathlib.Core.Bool.{cond}
+use lib.Dec.{eqb}
+use lib.ListN.{set}
+use Rattle.fields.specs.Fields.{Row, stop, stub, overrun, field, rowAt}
+use Rattle.settings.specs.declared.Network.{Network}
+use Rattle.settings.specs.declared.Settings.{Settings}
+use Rattle.settings.specs.Settings.{blankSettings}
+use Rattle.entries.specs.declared.Fault.{Fault}
+use Rattle.entries.specs.declared.Fault.the-variants.{Cut, Empty}
+use Rattle.entries.specs.declared.Entry.{Entry}
+use Rattle.entries.specs.declared.Entry.the-variants.{Bad}
+use Rattle.entries.specs.declared.Phase.{Phase}
+use Rattle.entries.specs.declared.Phase.the-variants.{Named}
+use Rattle.entries.specs.declared.Opening.{Opening}
+use Rattle.entries.specs.declared.Opening.the-variants.{Closes, Begins, Refuses}
+use Rattle.entries.specs.declared.Move.{Move}
+use Rattle.entries.specs.declared.Move.the-variants.{More, Whole}
+use Rattle.sheet.specs.declared.Answer.{Answer}
+use Rattle.sheet.specs.declared.Answer.the-variants.{Accepted}
+use Rattle.sheet.specs.declared.Reading.{Reading}
+use Rattle.entries.specs.Entries.{layoutOf, overrunFault, entryOf}
+use Rattle.entries.specs.Grammar.{begun, opens, goesOn}
+
+-- the settings with one network more
+unfoldable pub pushed : Settings → Network → Settings
+pushed s n = record { networks = set (s .networks) (s .count) n; count = s .count + 1 }
+
+-- "The place is the offset of the tag." Where a refusal points may depend on the fault and the entry
+abbrev pub placeOf : Fault → Entry → ℕ → ℕ
+placeOf fault entry at = at
+
+-- beside a refusal the settings are blank
+unfoldable pub refusedAt : Fault → ℕ → Reading
+refusedAt fault place = record { answer = Answer.Refused fault; place = place; settings = blankSettings }
+
+-- "At the end, no network at all gives 38 at 0"; "an accepted read gives the number of networks and, as place, the sheet's length"
+unfoldable pub closed : Settings → ℕ → Reading
+closed s at = cond (eqb (s .count) 0) (refusedAt Empty 0) (record { answer = Accepted; place = at; settings = s })
+
+-- what follows where a network may begin: the end of the sheet, a network with a handle, a refusal
+unfoldable pub afterOpening : Opening → Settings → Entry → ℕ → (ℕ → Reading) → Reading
+afterOpening Closes s entry at begins = closed s at
+afterOpening (Begins handle) s entry at begins = begins handle
+afterOpening (Refuses fault) s entry at begins = refusedAt fault (placeOf fault entry at)
+
+-- what follows in a network: it goes on, it is whole, a refusal
+unfoldable pub afterMove : Move → Network → Entry → ℕ → (Network → Phase → Reading) → (Network → Reading) → Reading
+afterMove (More phase) n entry at more whole = more n phase
+afterMove Whole n entry at more whole = whole n
+afterMove (Move.Refused fault) n entry at more whole = refusedAt fault (placeOf fault entry at)
+
+-- a field that is laid out wrongly
+abbrev pub badAt : Fault → ℕ → Reading
+badAt fault at = refusedAt fault (placeOf fault (Bad fault) at)
+
+unfoldable mutual
+  -- where a network may begin
+  pub sheet : Row → Settings → Reading
+  sheet (stop at) s = closed s at
+  sheet (stub at tag) s = badAt Cut at
+  sheet (overrun at tag n) s = badAt (overrunFault (layoutOf tag n)) at
+  sheet (field at tag v rest) s = afterOpening (opens s (entryOf tag v)) s (entryOf tag v) at (λ handle. network rest s (begun handle) Named)
+
+  -- in a network
+  pub network : Row → Settings → Network → Phase → Reading
+  network (stop at) s n phase = refusedAt Cut at
+  network (stub at tag) s n phase = badAt Cut at
+  network (overrun at tag m) s n phase = badAt (overrunFault (layoutOf tag m)) at
+  network (field at tag v rest) s n phase =
+      afterMove (goesOn s n phase (entryOf tag v) .to) (goesOn s n phase (entryOf tag v) .network) (entryOf tag v) at
+      (λ m next. network rest s m next) (λ m. sheet rest (pushed s m))
+
+-- what the bytes from a place on say
+unfoldable pub readFrom : List ℕ → ℕ → Reading
+readFrom l at = sheet (rowAt l at) blankSettings
+
+-- what a sheet says
+abbrev pub decode : List ℕ → Reading
+decode l = readFrom l 0

@@ -1,0 +1,55 @@
+// The settings sheet: its fields, reading it and writing it.
+mod reader;
+mod writer;
+
+ghost use mathlib.Core.Path.{_≡_};
+ghost use Rattle.sheet.specs.Numbers.{answerNumber, writtenNumber};
+use entries::Fault;
+pub use reader::read;
+pub use reader::read_from;
+pub use reader::read_rest;
+use settings::Settings;
+pub use writer::sheet_length;
+pub use writer::write;
+
+// What writing a sheet gives: its length, or that the lent buffer is too short for it.
+pub enum Written {
+    Short,
+    Length(usize),
+}
+
+impl Written {
+    // The number of this answer.
+    pub fn number(self) -> u8
+        ensures { λ r. ⌜ r ≡ writtenNumber self ⌝ }
+    {
+        match self {
+            Written::Short => 0x20,
+            Written::Length(_) => 0,
+        }
+    }
+}
+
+pub enum Answer {
+    Accepted,
+    Refused(Fault),
+}
+
+impl Answer {
+    // The number of this answer.
+    pub fn number(self) -> u8
+        ensures { λ r. ⌜ r ≡ answerNumber self ⌝ }
+    {
+        match self {
+            Answer::Accepted => 0,
+            Answer::Refused(fault) => fault.number(),
+        }
+    }
+}
+
+// What reading a sheet gives. Beside a refusal the settings are blank.
+pub struct Reading {
+    pub answer: Answer,
+    pub place: usize,
+    pub settings: Settings,
+}

@@ -1,0 +1,116 @@
+// Reading a sheet: a sheet is one network and then a sheet or its end, so the two functions call each other.
+use crate::Answer;
+use crate::Reading;
+use entries::Entry;
+use entries::Fault;
+use entries::Move;
+use entries::Opening;
+use entries::Phase;
+use fields::Reader;
+use settings::Network;
+use settings::Settings;
+ghost use mathlib.Core.Path.{_≡_};
+ghost use Prim.Native.Nat.{_<_};
+ghost use Rattle.fields.specs.Fields.{rowAt};
+ghost use Rattle.sheet.specs.Reading.{pushed, placeOf, refusedAt, closed, sheet, network, readFrom};
+ghost use Rattle.sheet.specs.Outcomes.{ReadOutcome};
+
+// Where a refusal points: the offset of the tag.
+fn place_of(_fault: Fault, _entry: Entry, at: usize) -> usize
+    ensures { λ r. ⌜ r ≡ placeOf «_fault» «_entry» at ⌝ }
+{
+    at
+}
+
+fn refuse(fault: Fault, place: usize) -> Reading
+    ensures { λ r. ⌜ r ≡ refusedAt fault place ⌝ }
+{
+    let settings = Settings::blank();
+    Reading {
+        answer: Answer::Refused(fault),
+        place,
+        settings,
+    }
+}
+
+// The end of a sheet, at a place.
+fn close_sheet(settings: Settings, at: usize) -> Reading
+    ensures { λ r. ⌜ r ≡ closed settings at ⌝ }
+{
+    if settings.count == 0 {
+        return refuse(Fault::Empty, 0);
+    }
+    Reading {
+        answer: Answer::Accepted,
+        place: at,
+        settings,
+    }
+}
+
+// The settings with one network more.
+fn push_network(settings: Settings, network: Network) -> Settings
+    requires { ⌜ settings .count < 8 ⌝ }
+    ensures { λ r. ⌜ r ≡ pushed settings network ⌝ }
+{
+    let count = settings.count;
+    let mut next = settings;
+    next.networks[count as usize] = network;
+    next.count = count + 1;
+    next
+}
+
+fn read_sheet(bytes: &[u8], at: usize, settings: Settings) -> Reading
+    ensures { λ r. ⌜ r ≡ sheet (rowAt (now (bytes .entry)) at) settings ⌝ }
+{
+    let found = entries::entry_at(bytes, at);
+    let entry = found.entry;
+    match entries::open_network(settings, entry) {
+        Opening::Closes => close_sheet(settings, at),
+        Opening::Begins(handle) => {
+            let begun = entries::begin_network(handle);
+            read_network(bytes, found.next, settings, begun, Phase::Named)
+        }
+        Opening::Refuses(fault) => refuse(fault, place_of(fault, entry, at)),
+    }
+}
+
+fn read_network(bytes: &[u8], at: usize, settings: Settings, part: Network, phase: Phase) -> Reading
+    requires { ⌜ settings .count < 8 ⌝ }
+    ensures { λ r. ⌜ r ≡ network (rowAt (now (bytes .entry)) at) settings part phase ⌝ }
+{
+    let found = entries::entry_at(bytes, at);
+    let entry = found.entry;
+    let moved = entries::go_on(settings, part, phase, entry);
+    let to = moved.to;
+    let after = moved.network;
+    match to {
+        Move::More(next) => read_network(bytes, found.next, settings, after, next),
+        Move::Whole => {
+            let more = push_network(settings, after);
+            read_sheet(bytes, found.next, more)
+        }
+        Move::Refused(fault) => refuse(fault, place_of(fault, entry, at)),
+    }
+}
+
+// The settings that the bytes from a place on say.
+pub fn read_rest(bytes: &[u8], at: usize) -> Reading
+    ensures { λ r. ⌜ r ≡ readFrom (now (bytes .entry)) at ⌝ }
+{
+    let settings = Settings::blank();
+    read_sheet(bytes, at, settings)
+}
+
+// The settings that the unread bytes of a reader say.
+pub fn read_from<'a>(reader: Reader<'a>) -> Reading
+    ensures { λ r. ⌜ r ≡ readFrom (now (reader .entry .bytes)) (reader .entry .place) ⌝ }
+{
+    read_rest(reader.bytes, reader.place)
+}
+
+// The settings that a sheet says.
+pub fn read(bytes: &[u8]) -> Reading
+    ensures { λ r. ⌜ ReadOutcome (now (bytes .entry)) r ⌝ }
+{
+    read_from(Reader::new(bytes))
+}

@@ -1,0 +1,221 @@
+// Reads stored sheets, good and damaged, and writes what reading each gives, its settings, and the sheet written back.
+// Input: for each sheet two bytes length, high byte first, and the sheet.
+use libc::STDIN_FILENO;
+use libc::STDOUT_FILENO;
+use settings::Network;
+use settings::Settings;
+use settings::Transceiver;
+use sheet::Reading;
+use sheet::Written;
+
+// The lent buffer: room for the largest sheet and some bytes that must stay.
+const ROOM: usize = 336;
+// What the lent buffer holds before.
+const FILL: u8 = 0xee;
+// How many bytes after a sheet are shown.
+const AFTER: usize = 2;
+// How many bytes of a buffer that was too short are shown.
+const SHOWN: usize = 4;
+// The bytes of a length before a stored sheet.
+const HEAD: usize = 2;
+
+fn put_text(text: &[u8]) {
+    io::write_all(STDOUT_FILENO, text);
+}
+
+// A blank and a number.
+fn put_number(number: u64) {
+    put_text(b" ");
+    io::print_decimal(STDOUT_FILENO, number);
+}
+
+fn put_byte(number: u8) {
+    put_number(number as u64);
+}
+
+fn put_wide(number: u16) {
+    put_number(number as u64);
+}
+
+fn put_size(number: usize) {
+    put_number(number as u64);
+}
+
+fn put_hex_byte(byte: u8) {
+    io::print_hex(STDOUT_FILENO, byte as u64, 2);
+}
+
+// The first bytes in hexadecimal, at most so many.
+fn put_hex(bytes: &[u8], most: usize) {
+    let mut i: usize = 0;
+    while i < bytes.len() {
+        if most <= i {
+            return;
+        }
+        put_hex_byte(bytes[i]);
+        i += 1;
+    }
+}
+
+// The number of a case, at the front of a line.
+fn begin_line(case: u64) {
+    io::print_decimal(STDOUT_FILENO, case);
+}
+
+fn end_line() {
+    put_text(b"\n");
+}
+
+fn put_controllers(network: Network) {
+    let count = network.count as usize;
+    let ids = network.controllers;
+    put_byte(ids[0]);
+    let mut i: usize = 1;
+    while i < Network::MOST_CONTROLLERS {
+        if count <= i {
+            return;
+        }
+        put_text(b",");
+        io::print_decimal(STDOUT_FILENO, ids[i] as u64);
+        i += 1;
+    }
+}
+
+fn put_transceiver(transceiver: Transceiver) {
+    match transceiver {
+        Transceiver::Absent => put_text(b" -"),
+        Transceiver::Present(id) => put_byte(id),
+    }
+}
+
+fn put_partial(partial: bool) {
+    if partial {
+        put_text(b" 1");
+    } else {
+        put_text(b" 0");
+    }
+}
+
+fn put_network(case: u64, network: Network) {
+    begin_line(case);
+    put_text(b" net");
+    put_byte(network.handle);
+    put_controllers(network);
+    let transceiver = network.transceiver;
+    put_transceiver(transceiver);
+    put_wide(network.short);
+    put_wide(network.long);
+    put_wide(network.ensure);
+    put_byte(network.threshold);
+    put_partial(network.partial);
+    end_line();
+}
+
+fn put_networks(case: u64, settings: Settings) {
+    let count = settings.count as usize;
+    let networks = settings.networks;
+    let mut i: usize = 0;
+    while i < Settings::MOST_NETWORKS {
+        if count <= i {
+            return;
+        }
+        let network = networks[i];
+        put_network(case, network);
+        i += 1;
+    }
+}
+
+// The answer of the writer, its length, and the first bytes of the lent buffer.
+fn put_written(written: Written, buffer: &[u8], shown: usize) {
+    put_byte(written.number());
+    match written {
+        Written::Short => put_size(0),
+        Written::Length(length) => put_size(length),
+    }
+    put_text(b" ");
+    put_hex(buffer, shown);
+    end_line();
+}
+
+fn filled() -> [u8; ROOM] {
+    [FILL; ROOM]
+}
+
+// Lends the first bytes of a buffer to the writer.
+fn write_part(settings: Settings, buffer: &mut [u8], length: usize) -> Written {
+    if buffer.len() < length {
+        return Written::Short;
+    }
+    sheet::write(settings, &mut buffer[..length])
+}
+
+fn write_back(case: u64, settings: Settings, length: usize) {
+    let mut buffer = filled();
+    let written = sheet::write(settings, &mut buffer);
+    begin_line(case);
+    put_text(b" write");
+    put_written(written, &buffer, length);
+}
+
+fn write_short(case: u64, settings: Settings, length: usize) {
+    let mut buffer = filled();
+    let written = write_part(settings, &mut buffer, length);
+    begin_line(case);
+    put_text(b" short");
+    put_written(written, &buffer, SHOWN);
+}
+
+// The sheet written back into a buffer with room for it, and into one that is a byte too short.
+fn put_sheet(case: u64, settings: Settings) {
+    let length = sheet::sheet_length(settings);
+    if length == 0 {
+        return;
+    }
+    if ROOM < length {
+        return;
+    }
+    write_back(case, settings, length + AFTER);
+    write_short(case, settings, length - 1);
+}
+
+fn put_reading(case: u64, reading: Reading) {
+    let answer = reading.answer;
+    let settings = reading.settings;
+    begin_line(case);
+    put_byte(answer.number());
+    put_byte(settings.count);
+    put_size(reading.place);
+    end_line();
+    if settings.count == 0 {
+        return;
+    }
+    put_networks(case, settings);
+    put_sheet(case, settings);
+}
+
+fn run_cases(input: &[u8]) {
+    let mut case: u64 = 0;
+    let mut at: usize = 0;
+    while at < input.len() {
+        let left = input.len() - at;
+        if left < HEAD {
+            return;
+        }
+        let length = fields::number(input[at], input[at + 1]) as usize;
+        if left - HEAD < length {
+            return;
+        }
+        let from = at + HEAD;
+        let to = from + length;
+        case += 1;
+        put_reading(case, sheet::read(&input[from..to]));
+        at = to;
+    }
+}
+
+fn main() {
+    let mut input = io::large_buffer();
+    let count = io::read_full(STDIN_FILENO, &mut input);
+    put_text(b"expected output made by: python3 tests/sheet_cases.py\n");
+    run_cases(&input[..count]);
+}

@@ -1,0 +1,866 @@
+#!/usr/bin/env python3
+"""Checks the model against the worked examples of document 01 and against its sentences.
+
+The expected values here are written by hand from document 01; none is made by the model.
+"""
+
+import random
+import unittest
+
+import model
+import sheet_cases
+from model import Kind, Manager, Mode, Outfit
+
+BENCH_SHEET = bytes.fromhex("01000107 02000103 040006000200050003 05000101 06000100")
+TRANSCEIVER_SHEET = bytes.fromhex("01000107 02000103 02000104 03000105 040006000200050003 05000101 06000100")
+PARTIAL_SHEET = bytes.fromhex("01000109 02000101 02000102 03000106 040006000200050003 05000101 06000101")
+LARGE_BUFFER = 144
+
+WHOLE_CASE_INPUT = bytes.fromhex(
+    "01000107 02000103 040006000200050003 05000101 06000100"
+    "160000 120003030001 160000 120003030201 160000 1000020702"
+    "160000 120003030001 160000 120003030101 160000 11000103"
+    "160000 120003030101 160000 160000 160000 17000107"
+)
+WHOLE_CASE_OUTPUT = """\
+config 0 1
+1 0 1:3:0
+2 0
+3 0 1:3:2
+4 0
+5 0 6:7:0
+6 0
+7 0 1:3:0
+8 0
+9 0 1:3:1
+10 0
+11 0 3:3:0 6:7:2 7:7:2
+12 0 8:7:1 6:7:1 7:7:3
+13 0 1:3:1
+14 0
+15 0 3:3:1
+16 0
+17 0 3:3:0 6:7:2 7:7:2
+18 0 2
+"""
+
+
+class Bench:
+    """A started manager with one network, and a layer below that answers as it is told."""
+
+    def __init__(self, sheet=BENCH_SHEET):
+        self.manager = Manager.new()
+        assert self.manager.read(sheet).answer == model.ACCEPTED
+        assert self.manager.start().answer == model.ACCEPTED
+        self.network = self.manager.networks[0]
+        self.handle = self.network.settings.handle
+        self.controller = self.network.settings.controllers[0]
+        self.transceiver = self.network.settings.transceiver
+        self.records = []
+
+    def tick(self):
+        """One tick with a large buffer; gives its records."""
+        self.records = self.manager.tick(LARGE_BUFFER).records
+        return self.records
+
+    def reply(self):
+        """Answer every request of the last tick ok."""
+        for kind, target, argument in self.records:
+            if kind == Kind.CONTROLLER_MODE:
+                assert self.manager.controller_answer(target, argument, 1).answer == 0
+            elif kind == Kind.TRANSCEIVER_MODE:
+                assert self.manager.transceiver_mode(target, argument).answer == 0
+            elif kind == Kind.CLEAR_WAKE_FLAG:
+                assert self.manager.clear_done(target).answer == 0
+            elif kind == Kind.CHECK_WAKE_FLAG:
+                assert self.manager.check_done(target).answer == 0
+        self.records = []
+
+    def replied_tick(self):
+        """Answer the last requests ok, then tick."""
+        self.reply()
+        return self.tick()
+
+    def want(self, mode):
+        """Request a mode and insist that it is accepted."""
+        assert self.manager.request(self.handle, mode).answer == model.ACCEPTED
+
+    def bus_off(self):
+        """A bus-off of the first controller."""
+        self.records = []
+        return self.manager.bus_off(self.controller, LARGE_BUFFER)
+
+    def tick_until(self, step):
+        """Tick, with all requests answered, until the network has just come to the step."""
+        for _ in range(40):
+            if self.network.step == step:
+                return
+            self.replied_tick()
+        raise AssertionError(f"step {step} was not reached")
+
+    def go_to(self, step):
+        """Bring the network by calls alone to the step; a tick brings it there, except for 6, and
+        except for the step of the start."""
+        if step in (0, 9, 10, 11, 12, 13):
+            self.tick_until(step)
+        elif step == 14:
+            self.tick_until(12)
+            self.manager.controller_answer(self.controller, 2, 0)
+            self.records = []
+            self.tick()
+        elif step in (1, 2, 3, 4, 5):
+            self.tick_until(0)
+            self.want(Mode.FULL)
+            self.tick_until(step)
+        elif step in (6, 7):
+            self.go_to(5)
+            self.bus_off()
+            self.tick_until(step)
+        elif step == 8:
+            self.go_to(5)
+            self.want(Mode.SILENT)
+            self.tick_until(8)
+        assert self.network.step == step
+
+
+def bench_in_step(step, sheet=BENCH_SHEET):
+    """A bench brought to a step."""
+    bench = Bench(sheet)
+    bench.go_to(step)
+    return bench
+
+
+def replied_ticks_until_full(bench):
+    """How many ticks, with all requests answered, until a tick tells full."""
+    for number in range(1, 40):
+        if (Kind.COMMUNICATION_MANAGER, bench.handle, Mode.FULL) in bench.replied_tick():
+            return number
+    raise AssertionError("full was never told")
+
+
+class WorkedExamples(unittest.TestCase):
+    """The whole case and the bench cases of document 01."""
+
+    def reading(self, sheet):
+        reading = model.read_sheet(sheet)
+        return reading.refusal, reading.place, len(reading.networks)
+
+    def test_whole_case(self):
+        self.assertEqual(model.cantrace(WHOLE_CASE_INPUT), WHOLE_CASE_OUTPUT)
+
+    def test_b1_to_b4_empty_good_and_cut(self):
+        self.assertEqual(self.reading(b""), (0x38, 0, 0))
+        self.assertEqual(self.reading(BENCH_SHEET), (0, 25, 1))
+        self.assertEqual(self.reading(BENCH_SHEET[:24]), (0x30, 21, 0))
+        self.assertEqual(self.reading(BENCH_SHEET[:21]), (0x30, 21, 0))
+
+    def test_b5_short_delay_zero(self):
+        sheet = BENCH_SHEET[:11] + b"\x00\x00" + BENCH_SHEET[13:]
+        self.assertEqual(self.reading(sheet), (0x34, 8, 0))
+
+    def test_b6_controller_field_twice(self):
+        sheet = BENCH_SHEET[:8] + BENCH_SHEET[4:8] + BENCH_SHEET[8:]
+        self.assertEqual(self.reading(sheet), (0x35, 8, 0))
+
+    def test_b7_threshold(self):
+        self.assertEqual(self.reading(BENCH_SHEET[:20] + b"\xfe" + BENCH_SHEET[21:]), (0, 25, 1))
+        self.assertEqual(self.reading(BENCH_SHEET[:20] + b"\xff" + BENCH_SHEET[21:]), (0x34, 17, 0))
+
+    def test_b8_partial_networking_without_transceiver(self):
+        self.assertEqual(self.reading(BENCH_SHEET[:24] + b"\x01"), (0x37, 21, 0))
+
+    def test_b9_full_on_the_fourth_and_on_the_seventh_tick(self):
+        bench = bench_in_step(5)
+        self.assertEqual(bench.bus_off().answer, 0)
+        self.assertEqual(replied_ticks_until_full(bench), 4)
+        bench = bench_in_step(7)
+        self.assertEqual(bench.bus_off().answer, 0)
+        self.assertEqual(replied_ticks_until_full(bench), 7)
+
+    def test_b10_started_answer_between_bus_off_and_next_tick(self):
+        bench = bench_in_step(5)
+        bench.bus_off()
+        self.assertEqual(bench.manager.controller_answer(3, 1, 1).answer, 0x22)
+
+    def test_b11_silent_asked_for_in_step_0(self):
+        self.assertEqual(bench_in_step(0).manager.request(7, 1).answer, 0x08)
+
+    def test_b12_tick_with_8_and_with_9_bytes(self):
+        manager = Bench().manager
+        refused = manager.tick(8)
+        self.assertEqual((refused.answer, refused.records, refused.count), (0x20, [], 0))
+        accepted = manager.tick(9)
+        self.assertEqual((accepted.answer, accepted.records, accepted.count), (0, [(1, 3, 0)], 1))
+
+    def test_after_full_is_told_passed_comes_on_the_third_tick(self):
+        bench = bench_in_step(4)
+        self.assertEqual([bench.tick(), bench.tick(), bench.tick()], [[], [], [(8, 7, 0)]])
+
+
+class OldFaults(unittest.TestCase):
+    """The faults seen in older boxes must not be in the model."""
+
+    def test_started_answer_from_before_a_bus_off_does_not_count(self):
+        bench = bench_in_step(3)
+        bench.bus_off()
+        self.assertEqual(bench.manager.controller_answer(3, 1, 1).answer, 0x22)
+        self.assertEqual(bench.tick(), [(1, 3, 1)])
+        self.assertEqual(bench.replied_tick(), [(3, 3, 0), (6, 7, 2), (7, 7, 2)])
+
+    def test_long_delay_begins_above_the_threshold(self):
+        bench = bench_in_step(5)
+        bench.bus_off()
+        self.assertEqual(bench.network.bus_off_count, bench.network.settings.threshold)
+        self.assertEqual(replied_ticks_until_full(bench), 4)
+
+    def test_told_mode_is_not_full_while_controllers_are_being_stopped(self):
+        bench = bench_in_step(5)
+        bench.want(Mode.NO)
+        self.assertEqual(bench.manager.poll(7).mode, Mode.FULL)
+        self.assertEqual(bench.tick(), [(7, 7, 0), (6, 7, 1), (1, 3, 0)])
+        self.assertEqual(bench.manager.poll(7).mode, Mode.SILENT)
+
+    def test_silent_and_back_keeps_the_count(self):
+        bench = bench_in_step(4)
+        bench.bus_off()
+        replied_ticks_until_full(bench)
+        bench.want(Mode.SILENT)
+        self.assertEqual(bench.tick(), [(3, 3, 1), (6, 7, 1), (7, 7, 1)])
+        bench.want(Mode.FULL)
+        self.assertEqual(bench.tick(), [(3, 3, 0), (6, 7, 2), (7, 7, 2)])
+        self.assertEqual(bench.network.bus_off_count, 1)
+        bench.bus_off()
+        self.assertEqual(replied_ticks_until_full(bench), 7)
+
+    def test_passed_clears_the_count(self):
+        bench = bench_in_step(4)
+        bench.bus_off()
+        bench.tick_until(5)
+        self.assertEqual(bench.network.bus_off_count, 0)
+        bench.bus_off()
+        self.assertEqual(replied_ticks_until_full(bench), 4)
+
+
+class Program(unittest.TestCase):
+    """The splitting of the input and the lines of `cantrace`."""
+
+    def after_bench_sheet(self, events):
+        return model.cantrace(BENCH_SHEET + bytes.fromhex(events))
+
+    def test_sheet_and_then_the_tag_of_an_event_cut(self):
+        self.assertEqual(self.after_bench_sheet("16"), "config 0 1\nstop 25\n")
+
+    def test_sheet_and_then_a_low_tag_cut(self):
+        self.assertEqual(self.after_bench_sheet("09"), "config 48 25\n")
+
+    def test_low_tag_not_cut_belongs_to_the_sheet(self):
+        self.assertEqual(self.after_bench_sheet("090000 160000"), "config 49 25\n")
+
+    def test_cut_field_before_an_event_makes_all_the_rest_sheet(self):
+        self.assertEqual(self.after_bench_sheet("0200ff 160000"), "config 50 25\n")
+        self.assertEqual(self.after_bench_sheet("0100ff 160000"), "config 50 25\n")
+
+    def test_empty_input(self):
+        self.assertEqual(model.cantrace(b""), "config 56 0\n")
+
+    def test_first_tag_10(self):
+        self.assertEqual(model.cantrace(bytes.fromhex("160000")), "config 56 0\n")
+        self.assertEqual(model.cantrace(bytes.fromhex("10")), "config 56 0\n")
+
+    def test_tag_0f_is_below_10(self):
+        self.assertEqual(model.cantrace(bytes.fromhex("0f0000")), "config 49 0\n")
+
+    def test_exactly_65536_bytes(self):
+        # 25 bytes of sheet and 21,837 ticks are 65,536 bytes.
+        data = BENCH_SHEET + bytes.fromhex("160000") * 21837
+        self.assertEqual(len(data), 65536)
+        expected = "config 0 1\n" + "".join(f"{number} 0 1:3:0\n" for number in range(1, 21838))
+        self.assertEqual(model.cantrace(data), expected)
+
+    def test_too_long(self):
+        self.assertEqual(model.cantrace(BENCH_SHEET + bytes(65512)), "too long\n")
+
+    def test_bad_events_stop(self):
+        for events in ("18 0000", "ff0000", "100001 07", "160001 00", "1600", "170001", "12000303 01",
+                       "090000", "00"):
+            with self.subTest(events=events):
+                output = self.after_bench_sheet("160000" + events)
+                self.assertEqual(output, "config 0 1\n1 0 1:3:0\nstop 28\n")
+
+    def test_events_after_a_stop_are_not_run(self):
+        self.assertEqual(self.after_bench_sheet("180000 160000"), "config 0 1\nstop 25\n")
+
+    def test_refused_poll_prints_0(self):
+        self.assertEqual(self.after_bench_sheet("160000 160000 17000108").splitlines()[3], "3 3 0")
+
+    def test_refusals_are_decimal(self):
+        expected = ["config 0 1", "1 3", "2 33", "3 8", "4 4", "5 34", "6 5", "7 5", "8 5"]
+        events = "1000020802 1000020703 1000020701 11000104 11000103 1300020000 14000100 15000100"
+        self.assertEqual(self.after_bench_sheet(events).splitlines(), expected)
+
+    def test_no_events(self):
+        self.assertEqual(self.after_bench_sheet(""), "config 0 1\n")
+
+
+class Traces(unittest.TestCase):
+    """Recorded inputs with the lines that document 01 gives, written by hand."""
+
+    DOWN_WITH_TRANSCEIVER = [  # from the start to step 0
+        ("160000", "0 1:3:0 1:4:0"),
+        ("120003 030001", "0"),
+        ("160000", "0 1:3:0 1:4:0"),  # sent again to all, one answer is already there
+        ("120003 040001", "0"),
+        ("160000", "0 1:3:2 1:4:2"),
+        ("120003 030200", "0"),
+        ("120003 040201", "0"),
+        ("160000", "0 1:3:2 1:4:2"),  # without PN a refusal makes it ask again
+        ("120003 030201", "0"),
+        ("160000", "0 2:5:1"),
+        ("130002 0500", "34"),
+        ("130002 0502", "34"),
+        ("160000", "0 2:5:1"),
+        ("130002 0501", "0"),
+        ("160000", "0 6:7:0"),
+        ("160000", "0"),
+    ]
+
+    UP_WITH_TRANSCEIVER = [  # from step 0 to full, silent and a shutdown
+        ("100002 0702", "0"),
+        ("160000", "0 2:5:0"),
+        ("130002 0500", "0"),
+        ("160000", "0 1:3:0 1:4:0"),
+        ("120003 040001", "0"),
+        ("120003 030001", "0"),
+        ("160000", "0 1:3:1 1:4:1"),
+        ("120003 030101", "0"),
+        ("110001 04", "0"),           # bus-off in 3 hands out nothing
+        ("120003 040101", "34"),
+        ("160000", "0 1:3:1 1:4:1"),
+        ("120003 040101", "0"),
+        ("160000", "0 1:3:1 1:4:1"),  # the answer from before the bus-off is forgotten
+        ("120003 030101", "0"),
+        ("160000", "0 3:3:0 3:4:0 6:7:2 7:7:2"),
+        ("100002 0701", "0"),
+        ("160000", "0 3:3:1 3:4:1 6:7:1 7:7:1"),
+        ("100002 0700", "0"),
+        ("170001 07", "0 1"),
+        ("160000", "0 7:7:0 1:3:0 1:4:0"),  # told is silent, so no kind 6
+        ("170001 07", "0 1"),
+    ]
+
+    def check(self, sheet, pairs):
+        events = b"".join(bytes.fromhex(event) for event, _ in pairs)
+        lines = [f"{number} {line}" for number, (_, line) in enumerate(pairs, start=1)]
+        found = model.cantrace(sheet + events).splitlines()
+        self.assertEqual(found, ["config 0 1"] + lines)
+
+    def test_network_with_transceiver(self):
+        self.check(TRANSCEIVER_SHEET, self.DOWN_WITH_TRANSCEIVER + self.UP_WITH_TRANSCEIVER)
+
+    def test_network_with_partial_networking(self):
+        down_to_sleep = [
+            ("160000", "0 4:6:0"),
+            ("140001 06", "0"),
+            ("160000", "0 1:1:0 1:2:0"),
+            ("120003 010001", "0"),
+            ("120003 020001", "0"),
+            ("160000", "0 2:6:1"),
+            ("130002 0601", "0"),
+            ("160000", "0 1:1:2 1:2:2"),
+        ]
+        self.check(PARTIAL_SHEET, down_to_sleep + [
+            ("120003 020200", "0"),       # one refusal is enough, the other answer is not awaited
+            ("160000", "0 5:6:0"),
+            ("160000", "0 5:6:0"),
+            ("150001 06", "0"),
+        ] + down_to_sleep + [             # 14 to 9 only enters 9: no kind 7, no kind 6
+            ("120003 010201", "0"),
+            ("120003 020201", "0"),
+            ("160000", "0 5:6:0"),
+            ("150001 06", "0"),
+            ("160000", "0 6:9:0"),
+            ("100002 0902", "0"),
+            ("160000", "0 2:6:0"),
+            ("100002 0900", "0"),
+            ("130002 0600", "0"),
+            ("160000", "0 7:9:0 4:6:0"),  # wanted no comes before done
+        ])
+
+    def test_two_bus_offs_and_the_long_delay(self):
+        self.check(BENCH_SHEET, [
+            ("160000", "0 1:3:0"), ("120003 030001", "0"),
+            ("160000", "0 1:3:2"), ("120003 030201", "0"),
+            ("160000", "0 6:7:0"), ("100002 0702", "0"),
+            ("160000", "0 1:3:0"), ("120003 030001", "0"),
+            ("160000", "0 1:3:1"), ("120003 030101", "0"),
+            ("160000", "0 3:3:0 6:7:2 7:7:2"),
+            ("110001 03", "0 8:7:1 6:7:1 7:7:3"),
+            ("110001 03", "0 8:7:1 6:7:1 7:7:3"),  # taken in 6 too, and counted
+            ("160000", "0 1:3:1"), ("120003 030101", "0"),
+            ("160000", "0 3:3:1"),
+            ("160000", "0"), ("160000", "0"), ("160000", "0"), ("160000", "0"),
+            ("160000", "0 3:3:0 6:7:2 7:7:2"),
+        ])
+
+
+class SheetList(unittest.TestCase):
+    """The case list says in words what the model must do with each sheet."""
+
+    @classmethod
+    def setUpClass(cls):
+        cls.cases = sheet_cases.parse_cases(sheet_cases.CASE_FILE.read_text(encoding="ascii"))
+
+    def test_the_model_does_what_the_list_says(self):
+        for case in self.cases:
+            with self.subTest(case=case.name):
+                words = sheet_cases.outcome_in_words(Manager.new().read(case.sheet))
+                self.assertEqual(words, case.expectation)
+
+    def test_the_list_is_sound_and_covers_every_refusal(self):
+        sheet_cases.require_sound_list(self.cases)
+        self.assertGreaterEqual(len(self.cases), 70)
+        seen = {model.read_sheet(case.sheet).refusal for case in self.cases}
+        self.assertEqual(seen, {0} | set(range(0x30, 0x39)))
+
+    def test_accepted_sheets_are_written_as_they_were_read(self):
+        for case in self.cases:
+            reading = model.read_sheet(case.sheet)
+            if reading.refusal == 0:
+                with self.subTest(case=case.name):
+                    self.assertEqual(model.write_sheet(reading.networks), case.sheet)
+                    self.assertEqual(reading.place, len(case.sheet))
+                    self.assertTrue(25 <= len(case.sheet) <= 328)
+
+    def test_settings_of_the_sheet_with_partial_networking(self):
+        networks = model.read_sheet(PARTIAL_SHEET).networks
+        self.assertEqual(networks, [model.Settings(9, [1, 2], 6, 2, 5, 3, 1, 1)])
+
+    def test_lines_of_the_bench_sheet(self):
+        case = sheet_cases.Case("", "", BENCH_SHEET)
+        self.assertEqual(sheet_cases.case_lines(2, case), [
+            "2 0 1 25",
+            "2 net 7 3 - 2 5 3 1 0",
+            "2 write 0 25 01000107020001030400060002000500030500010106000100eeee",
+            "2 short 32 0 eeeeeeee",
+        ])
+        self.assertEqual(sheet_cases.case_lines(1, sheet_cases.Case("", "", b"")), ["1 56 0 0"])
+
+
+class CallsBeforeTheStart(unittest.TestCase):
+    """01 and 0B."""
+
+    def calls_that_need_a_start(self, manager):
+        return [
+            manager.tick(0), manager.bus_off(99, 0), manager.request(99, 9), manager.poll(99),
+            manager.controller_answer(99, 9, 9), manager.transceiver_mode(99, 9),
+            manager.clear_done(99), manager.check_done(99),
+        ]
+
+    def test_calls_without_a_start_give_01_before_all_else(self):
+        manager = Manager.new()
+        self.assertEqual([call.answer for call in self.calls_that_need_a_start(manager)], [1] * 8)
+        manager.read(BENCH_SHEET)
+        self.assertEqual([call.answer for call in self.calls_that_need_a_start(manager)], [1] * 8)
+
+    def test_start_and_write_need_a_sheet(self):
+        manager = Manager.new()
+        self.assertEqual(manager.start().answer, 0x01)
+        self.assertEqual(manager.write(0).answer, 0x01)
+        manager.read(b"\x01")
+        self.assertEqual(manager.start().answer, 0x01)
+
+    def test_read_and_start_on_a_started_manager(self):
+        manager = Bench().manager
+        refused = manager.read(b"\x00\x00\x00")
+        self.assertEqual((refused.answer, refused.place, refused.count), (0x0B, 0, 0))
+        self.assertEqual(manager.read(PARTIAL_SHEET).answer, 0x0B)
+        self.assertEqual(manager.start().answer, 0x0B)
+
+    def test_reading_again_replaces_and_a_refused_reading_keeps(self):
+        manager = Manager.new()
+        manager.read(BENCH_SHEET)
+        refused = manager.read(BENCH_SHEET[:24])
+        self.assertEqual((refused.answer, refused.place, refused.count), (0x30, 21, 0))
+        self.assertEqual(manager.write(336).sheet, BENCH_SHEET)
+        self.assertEqual(manager.read(PARTIAL_SHEET).count, 1)
+        self.assertEqual(manager.write(336).sheet, PARTIAL_SHEET)
+
+    def test_write_before_and_after_the_start(self):
+        manager = Manager.new()
+        manager.read(BENCH_SHEET)
+        self.assertEqual(manager.write(25).count, 25)
+        self.assertEqual((manager.write(24).answer, manager.write(24).count), (0x20, 0))
+        manager.start()
+        self.assertEqual(manager.write(25).sheet, BENCH_SHEET)
+
+    def test_start_puts_each_network_in_its_first_down_step(self):
+        for sheet, step in ((BENCH_SHEET, 10), (TRANSCEIVER_SHEET, 10), (PARTIAL_SHEET, 9)):
+            bench = Bench(sheet)
+            network = bench.network
+            self.assertEqual((network.step, network.asked, network.bus_off_count), (step, False, 0))
+            self.assertEqual((network.wanted, network.told), (Mode.NO, Mode.NO))
+            self.assertEqual(bench.manager.poll(bench.handle).mode, Mode.NO)
+
+
+class RefusalOrder(unittest.TestCase):
+    """'The first that applies, from the top, is given.'"""
+
+    def setUp(self):
+        self.manager = Bench(PARTIAL_SHEET).manager
+
+    def test_bus_off(self):
+        self.assertEqual(self.manager.bus_off(99, 8).answer, 0x20)
+        self.assertEqual(self.manager.bus_off(1, 8).answer, 0x20)
+        self.assertEqual(self.manager.bus_off(99, 9).answer, 0x04)
+        self.assertEqual(self.manager.bus_off(1, 9).answer, 0x22)
+
+    def test_bus_off_needs_9_bytes_in_step_3_too(self):
+        manager = bench_in_step(3, PARTIAL_SHEET).manager
+        self.assertEqual(manager.bus_off(1, 8).answer, 0x20)
+        accepted = manager.bus_off(1, 9)
+        self.assertEqual((accepted.answer, accepted.records, accepted.count), (0, [], 0))
+
+    def test_request(self):
+        self.assertEqual(self.manager.request(7, 3).answer, 0x03)
+        self.assertEqual(self.manager.request(9, 3).answer, 0x21)
+        self.assertEqual(self.manager.request(9, 255).answer, 0x21)
+        self.assertEqual(self.manager.request(9, 1).answer, 0x08)
+        self.assertEqual(self.manager.request(9, 2).answer, 0)
+        self.assertEqual(self.manager.request(9, 0).answer, 0)
+
+    def test_controller_answer(self):
+        self.assertEqual(self.manager.controller_answer(3, 3, 2).answer, 0x04)
+        self.assertEqual(self.manager.controller_answer(1, 3, 0).answer, 0x21)
+        self.assertEqual(self.manager.controller_answer(1, 0, 2).answer, 0x21)
+        self.assertEqual(self.manager.controller_answer(1, 0, 1).answer, 0x22)
+
+    def test_transceiver_calls(self):
+        self.assertEqual(self.manager.transceiver_mode(5, 3).answer, 0x05)
+        self.assertEqual(self.manager.transceiver_mode(6, 3).answer, 0x21)
+        self.assertEqual(self.manager.transceiver_mode(6, 2).answer, 0x22)
+        self.assertEqual(self.manager.clear_done(5).answer, 0x05)
+        self.assertEqual(self.manager.clear_done(6).answer, 0x22)
+        self.assertEqual(self.manager.check_done(5).answer, 0x05)
+        self.assertEqual(self.manager.check_done(6).answer, 0x22)
+
+    def test_poll(self):
+        refused = self.manager.poll(7)
+        self.assertEqual((refused.answer, refused.mode), (0x03, 0))
+
+    def test_tick_needs_room_for_all_networks(self):
+        # Three controllers and two networks: 3 x (3 + 2 x 2) = 21 bytes.
+        manager = Manager.new()
+        manager.read(PARTIAL_SHEET + BENCH_SHEET)
+        manager.start()
+        self.assertEqual(manager.tick(20).answer, 0x20)
+        self.assertEqual(manager.networks, Bench(PARTIAL_SHEET).manager.networks + Bench().manager.networks)
+        self.assertEqual(manager.tick(21).records, [(4, 6, 0), (1, 3, 0)])
+
+    def test_program_buffer_is_room_for_any_call(self):
+        # 32 controllers in 8 networks: 3 x (32 + 16) = 144.
+        self.assertEqual(3 * (32 + 2 * 8), model.Limit.PROGRAM_BUFFER_BYTES)
+
+
+class StepsAndCalls(unittest.TestCase):
+    """Which step takes which call, in a network with partial networking."""
+
+    TAKEN = {  # the step, and the answers and reports it takes once asked
+        0: [], 1: ["transceiver 0"], 2: ["controller 0"], 3: ["controller 1"], 4: [], 5: [],
+        6: ["controller 1"], 7: [], 8: [], 9: ["clear"], 10: ["controller 0"],
+        11: ["transceiver 1"], 12: ["controller 2"], 13: ["check"], 14: ["check"],
+    }
+
+    def asked_bench(self, step):
+        bench = bench_in_step(step, PARTIAL_SHEET)
+        if step in (6, 9) and not bench.network.asked:
+            bench.tick()
+        return bench
+
+    def calls(self, step):
+        """Each answer and report with its outcome in a manager of its own."""
+        found = {}
+        for mode in (0, 1, 2):
+            manager = self.asked_bench(step).manager
+            found[f"controller {mode}"] = manager.controller_answer(1, mode, 1).answer
+            manager = self.asked_bench(step).manager
+            found[f"transceiver {mode}"] = manager.transceiver_mode(6, mode).answer
+        found["clear"] = self.asked_bench(step).manager.clear_done(6).answer
+        found["check"] = self.asked_bench(step).manager.check_done(6).answer
+        return found
+
+    def test_answers_and_reports(self):
+        for step, taken in self.TAKEN.items():
+            for call, answer in self.calls(step).items():
+                with self.subTest(step=step, call=call):
+                    self.assertEqual(answer, 0 if call in taken else 0x22)
+
+    def test_bus_off(self):
+        for step in range(15):
+            outcome = bench_in_step(step, PARTIAL_SHEET).bus_off()
+            with self.subTest(step=step):
+                if step in (4, 5, 6, 7, 8):
+                    self.assertEqual(outcome.records, [(8, 9, 1), (6, 9, 1), (7, 9, 3)])
+                self.assertEqual(outcome.answer, 0 if step in (3, 4, 5, 6, 7, 8) else 0x22)
+
+    def test_silent(self):
+        for step in range(15):
+            with self.subTest(step=step):
+                answer = bench_in_step(step, PARTIAL_SHEET).manager.request(9, 1).answer
+                self.assertEqual(answer, 0 if step in (4, 5, 6, 7, 8) else 0x08)
+
+    def test_nothing_is_taken_before_it_is_asked(self):
+        self.assertEqual(Bench().manager.controller_answer(3, 0, 1).answer, 0x22)
+        self.assertEqual(Bench(PARTIAL_SHEET).manager.clear_done(6).answer, 0x22)
+        bench = bench_in_step(6, PARTIAL_SHEET)
+        self.assertEqual(bench.manager.controller_answer(1, 1, 1).answer, 0x22)
+        self.assertEqual(bench.tick(), [(1, 1, 1), (1, 2, 1)])
+        self.assertEqual(bench.manager.controller_answer(1, 1, 1).answer, 0)
+
+    def test_wanted_no_goes_down_from_1_to_8(self):
+        for step in range(1, 9):
+            bench = bench_in_step(step, PARTIAL_SHEET)
+            bench.want(Mode.NO)
+            told_silent = [(6, 9, 1)] if step in (4, 5) else []
+            with self.subTest(step=step):
+                self.assertEqual(bench.tick(), [(7, 9, 0)] + told_silent + [(4, 6, 0)])
+                self.assertEqual(bench.network.step, 9)
+
+    def test_the_down_steps_do_not_look_at_the_wanted_mode(self):
+        for step in (9, 10, 11, 12, 13, 14):
+            bench = bench_in_step(step, PARTIAL_SHEET)
+            before = bench.tick()
+            bench.want(Mode.FULL)
+            with self.subTest(step=step):
+                self.assertEqual(bench.tick(), before)
+                self.assertEqual(bench.network.step, step)
+
+
+class StepRules(unittest.TestCase):
+    """Single sentences of the rules of the tick, the answers and the bus-off."""
+
+    def test_later_answer_takes_the_place_of_an_earlier_one(self):
+        bench = bench_in_step(2)
+        self.assertEqual(bench.manager.controller_answer(3, 0, 1).answer, 0)
+        self.assertEqual(bench.manager.controller_answer(3, 0, 0).answer, 0)
+        self.assertEqual(bench.tick(), [(1, 3, 0)])
+        self.assertEqual(bench.manager.controller_answer(3, 0, 1).answer, 0)
+        self.assertEqual(bench.tick(), [(1, 3, 1)])
+
+    def test_sleep_refused_and_then_ok_with_partial_networking(self):
+        bench = bench_in_step(12, PARTIAL_SHEET)
+        for ok in (0, 1):
+            bench.manager.controller_answer(1, 2, ok)
+        bench.manager.controller_answer(2, 2, 1)
+        bench.tick()
+        self.assertEqual(bench.network.step, 13)
+
+    def test_sleep_refused_comes_before_done(self):
+        bench = bench_in_step(12, PARTIAL_SHEET)
+        bench.manager.controller_answer(1, 2, 1)
+        bench.manager.controller_answer(2, 2, 0)
+        self.assertEqual(bench.tick(), [(5, 6, 0)])
+        self.assertEqual(bench.network.step, 14)
+
+    def test_wanted_no_on_the_tick_of_the_ensure_time(self):
+        bench = bench_in_step(4)
+        bench.tick()
+        bench.tick()
+        bench.want(Mode.NO)
+        self.assertEqual(bench.tick(), [(7, 7, 0), (6, 7, 1), (1, 3, 0)])
+
+    def test_silent_comes_before_the_ensure_time(self):
+        bench = bench_in_step(4)
+        bench.tick()
+        bench.tick()
+        bench.want(Mode.SILENT)
+        self.assertEqual(bench.tick(), [(3, 3, 1), (6, 7, 1), (7, 7, 1)])
+
+    def test_waiting_ends_in_silent_if_silent_is_wanted(self):
+        bench = bench_in_step(7)
+        bench.want(Mode.SILENT)
+        self.assertEqual(bench.tick(), [])
+        self.assertEqual(bench.tick(), [(3, 3, 1), (6, 7, 1), (7, 7, 1)])
+        self.assertEqual(bench.tick(), [])
+
+    def test_a_shutdown_keeps_the_bus_off_count(self):
+        bench = bench_in_step(7)
+        bench.want(Mode.NO)
+        bench.tick_until(0)
+        self.assertEqual(bench.network.bus_off_count, 1)
+        bench.want(Mode.FULL)
+        bench.tick_until(4)
+        bench.bus_off()
+        self.assertEqual(replied_ticks_until_full(bench), 7)
+
+    def test_the_bus_off_count_stays_at_255(self):
+        bench = bench_in_step(5)
+        for _ in range(300):
+            bench.bus_off()
+        self.assertEqual(bench.network.bus_off_count, 255)
+
+    def test_a_refused_tick_counts_nowhere(self):
+        bench = bench_in_step(4)
+        for length in (9, 8, 9, 8):
+            self.assertEqual(bench.manager.tick(length).records, [])
+        self.assertEqual(bench.manager.tick(9).records, [(8, 7, 0)])
+
+    def test_request_hands_out_nothing_and_changes_no_step(self):
+        bench = bench_in_step(5)
+        outcome = bench.manager.request(7, 0)
+        self.assertEqual((outcome.answer, outcome.records), (0, []))
+        self.assertEqual((bench.network.step, bench.manager.poll(7).mode), (5, Mode.FULL))
+
+    def test_bus_off_tells_silent_at_once(self):
+        bench = bench_in_step(5)
+        outcome = bench.bus_off()
+        self.assertEqual((outcome.records, outcome.count), ([(8, 7, 1), (6, 7, 1), (7, 7, 3)], 3))
+        self.assertEqual(bench.manager.poll(7).mode, Mode.SILENT)
+
+    def test_networks_tick_in_sheet_order_and_alone(self):
+        manager = Manager.new()
+        manager.read(PARTIAL_SHEET + BENCH_SHEET)
+        manager.start()
+        self.assertEqual(manager.tick(144).records, [(4, 6, 0), (1, 3, 0)])
+        self.assertEqual(manager.controller_answer(3, 0, 1).answer, 0)
+        self.assertEqual(manager.tick(144).records, [(4, 6, 0), (1, 3, 2)])
+        self.assertEqual(manager.clear_done(6).answer, 0)
+        self.assertEqual(manager.tick(144).records, [(1, 1, 0), (1, 2, 0), (1, 3, 2)])
+
+    def test_lent_bytes(self):
+        bench = Bench()
+        before = b"\xee" * 9
+        refused = bench.manager.bus_off(3, 9)
+        self.assertEqual(model.lent_bytes_after(before, refused), before)
+        accepted = bench.manager.tick(9)
+        self.assertEqual(model.lent_bytes_after(before, accepted), bytes([1, 3, 0]) + b"\xee" * 6)
+
+
+class Decisions(unittest.TestCase):
+    """The 1,080 next steps."""
+
+    def test_number_and_order(self):
+        situations = list(model.situations())
+        self.assertEqual(len(situations), 1080)
+        self.assertEqual(len(set(situations)), 1080)
+        self.assertEqual(situations[0], (0, 0, True, True, True, 0))
+        self.assertEqual(situations[1], (0, 0, True, True, True, 1))
+        self.assertEqual(situations[3], (0, 0, True, True, False, 0))
+        self.assertEqual(situations[6], (0, 0, True, False, True, 0))
+        self.assertEqual(situations[12], (0, 0, False, True, True, 0))
+        self.assertEqual(situations[24], (0, 1, True, True, True, 0))
+        self.assertEqual(situations[72], (1, 0, True, True, True, 0))
+        self.assertEqual(situations[1079], (14, 2, False, False, False, 2))
+        self.assertEqual(len(list(model.decisions())), 1080)
+
+    def row(self, step, wanted, done=False, refusal=False, reached=False):
+        """The next steps of the three outfits."""
+        return [model.next_step(step, wanted, done, refusal, reached, outfit) for outfit in range(3)]
+
+    def test_from_no_communication(self):
+        self.assertEqual(self.row(0, Mode.FULL), [2, 1, 1])
+        self.assertEqual(self.row(0, Mode.SILENT), [0, 0, 0])
+        self.assertEqual(self.row(0, Mode.NO, True, True, True), [0, 0, 0])
+
+    def test_wanted_no_comes_first(self):
+        for step in range(1, 9):
+            self.assertEqual(self.row(step, Mode.NO, True, True, True), [10, 10, 9])
+
+    def test_up(self):
+        for wanted in (Mode.SILENT, Mode.FULL):
+            self.assertEqual(self.row(1, wanted, done=True), [2, 2, 2])
+            self.assertEqual(self.row(2, wanted, done=True), [3, 3, 3])
+            self.assertEqual(self.row(3, wanted, done=True), [4, 4, 4])
+            self.assertEqual(self.row(6, wanted, done=True), [7, 7, 7])
+            for step in (1, 2, 3, 6):
+                self.assertEqual(self.row(step, wanted, False, True, True), [step] * 3)
+        self.assertEqual(self.row(4, Mode.SILENT, reached=True), [8, 8, 8])
+        self.assertEqual(self.row(4, Mode.FULL, reached=True), [5, 5, 5])
+        self.assertEqual(self.row(4, Mode.FULL, True, True, False), [4, 4, 4])
+        self.assertEqual(self.row(5, Mode.SILENT), [8, 8, 8])
+        self.assertEqual(self.row(5, Mode.FULL, True, True, True), [5, 5, 5])
+        self.assertEqual(self.row(7, Mode.SILENT, reached=True), [8, 8, 8])
+        self.assertEqual(self.row(7, Mode.FULL, reached=True), [4, 4, 4])
+        self.assertEqual(self.row(7, Mode.FULL, True, True, False), [7, 7, 7])
+        self.assertEqual(self.row(8, Mode.FULL), [4, 4, 4])
+        self.assertEqual(self.row(8, Mode.SILENT, True, True, True), [8, 8, 8])
+
+    def test_down(self):
+        for wanted in (Mode.NO, Mode.SILENT, Mode.FULL):
+            self.assertEqual(self.row(9, wanted, done=True), [9, 9, 10])
+            self.assertEqual(self.row(10, wanted, done=True), [12, 12, 11])
+            self.assertEqual(self.row(11, wanted, done=True), [0, 0, 12])
+            self.assertEqual(self.row(12, wanted, done=True), [0, 11, 13])
+            self.assertEqual(self.row(12, wanted, done=True, refusal=True), [0, 11, 14])
+            self.assertEqual(self.row(12, wanted, refusal=True), [12, 12, 14])
+            self.assertEqual(self.row(13, wanted, done=True), [13, 13, 0])
+            self.assertEqual(self.row(14, wanted, done=True), [14, 14, 9])
+            for step in (9, 10, 11, 12, 13, 14):
+                self.assertEqual(self.row(step, wanted, reached=True), [step] * 3)
+
+    def test_a_refusal_matters_in_step_12_with_partial_networking_alone(self):
+        for step, wanted, done, refusal, reached, outfit in model.situations():
+            if (step, outfit) != (12, Outfit.PARTIAL_NETWORKING):
+                with_refusal = model.next_step(step, wanted, done, True, reached, outfit)
+                without = model.next_step(step, wanted, done, False, reached, outfit)
+                self.assertEqual(with_refusal, without)
+
+
+class RandomHistories(unittest.TestCase):
+    """What holds after every call, tried on many random calls from fixed seeds."""
+
+    HANDLES = (7, 9, 20, 3)
+    CONTROLLERS = (1, 2, 3, 10, 4)
+    TRANSCEIVERS = (6, 2, 1)
+    SHEET = (
+        BENCH_SHEET + PARTIAL_SHEET
+        + bytes.fromhex("01000114 0200010a 03000102 040006000300010001 05000100 06000100")
+    )
+
+    def random_call(self, manager, chance):
+        choice = chance.randrange(12)
+        if choice < 4:
+            return manager.tick(chance.choice((29, 30, 31, 144)))
+        if choice < 8:
+            return manager.controller_answer(
+                chance.choice(self.CONTROLLERS), chance.randrange(3), chance.choice((1, 1, 1, 0)))
+        if choice == 8:
+            return manager.request(chance.choice(self.HANDLES), chance.choice((0, 1, 2, 2, 2)))
+        if choice == 9:
+            return manager.transceiver_mode(chance.choice(self.TRANSCEIVERS), chance.randrange(3))
+        if choice == 10:
+            done = chance.choice((manager.clear_done, manager.check_done))
+            return done(chance.choice(self.TRANSCEIVERS))
+        return manager.bus_off(chance.choice(self.CONTROLLERS), chance.choice((8, 9)))
+
+    def check_network(self, network):
+        if network.wanted == Mode.SILENT:
+            self.assertIn(network.step, (4, 5, 6, 7, 8))
+        self.assertEqual(network.told == Mode.FULL, network.step in (4, 5))
+        if network.step in (0, 4, 5, 7, 8):
+            self.assertFalse(network.asked or network.reported)
+            self.assertEqual(network.answers, [None] * len(network.settings.controllers))
+        if network.step not in (4, 7):
+            self.assertEqual(network.tick_count, 0)
+
+    def test_invariants(self):
+        steps_seen = set()
+        for seed in range(40):
+            chance = random.Random(seed)
+            manager = Manager.new()
+            self.assertEqual(manager.read(self.SHEET).count, 3)
+            manager.start()
+            for _ in range(400):
+                before = repr(manager.networks)
+                outcome = self.random_call(manager, chance)
+                self.assertEqual(outcome.count, len(outcome.records))
+                if outcome.answer != 0:
+                    self.assertEqual(repr(manager.networks), before)
+                    self.assertEqual((outcome.records, outcome.count), ([], 0))
+                for network in manager.networks:
+                    self.check_network(network)
+                    steps_seen.add(network.step)
+        self.assertEqual(steps_seen, set(range(15)))
+
+
+if __name__ == "__main__":
+    unittest.main()
