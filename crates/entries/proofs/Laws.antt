@@ -24,16 +24,18 @@ use Rattle.entries.specs.Entries.{layoutOf, wide, timesEntry, wholeEntry
 pub value-byte : (s : List ℕ) (at n i : ℕ) → i < n → getD (take n (drop at s)) i 0 ≡ getD s (at + i) 0
 value-byte s at n i h = getD-take n (drop at s) i 0 h ∙ getD-drop at s i 0
 
-value-wide : (s : List ℕ) (at i : ℕ) → i + 1 < 6 → wide (take 6 (drop at s)) i ≡ getD s (at + i) 0 * 256 + getD s (at + (i + 1)) 0
-value-wide s at i h = rw (value-byte s at 6 i (omega arith), value-byte s at 6 (i + 1) h) refl
+-- the number at i of a value of 6 bytes that begins at a place
+value-wide : (s : List ℕ) (at i : ℕ) → i + 1 < 6 → wide (take 6 (drop at s)) i ≡ wide s (at + i)
+value-wide s at i h =
+    let e : at + (i + 1) ≡ at + i + 1 = omega arith in
+    rw (value-byte s at 6 i (omega arith), value-byte s at 6 (i + 1) h, e) refl
 
-pub times-at : (s : List ℕ) (at x y z : ℕ)
-    → x ≡ getD s at 0 * 256 + getD s (at + 1) 0 → y ≡ getD s (at + 2) 0 * 256 + getD s (at + 3) 0 → z ≡ getD s (at + 4) 0 * 256 + getD s (at + 5) 0
-    → Entry.Times x y z ≡ timesEntry (take 6 (drop at s))
+pub times-at : (s : List ℕ) (at x y z : ℕ) → x ≡ wide s at → y ≡ wide s (at + 2) → z ≡ wide s (at + 2 + 2) → Entry.Times x y z ≡ timesEntry (take 6 (drop at s))
 unfolding timesEntry
 times-at s at x y z p q r =
-    let zero : at + 0 ≡ at = omega arith in
-    rw (value-wide s at 0 (omega arith), value-wide s at 2 (omega arith), value-wide s at 4 (omega arith), zero, p, q, r) refl
+    let first : at + 0 ≡ at = omega arith in
+    let last : at + 2 + 2 ≡ at + 4 = omega arith in
+    rw (value-wide s at 0 (omega arith), value-wide s at 2 (omega arith), value-wide s at 4 (omega arith), first, p, q, r, last) refl
 
 -- ---- layoutOf
 -- a layout that is right says the length, and which tag it can be

@@ -215,13 +215,13 @@ fn on_times(network: Network, phase: Phase, short: u16, long: u16, ensure: u16) 
     ensures { λ r. ⌜ r ≡ onTimes network phase short long ensure ⌝ }
 {
     if takes_times(phase) {
-        if short == 0 {
+        if short == Network::NO_TIME {
             return refuse(Fault::OutOfRange, network);
         }
-        if long == 0 {
+        if long == Network::NO_TIME {
             return refuse(Fault::OutOfRange, network);
         }
-        if ensure == 0 {
+        if ensure == Network::NO_TIME {
             return refuse(Fault::OutOfRange, network);
         }
         let next = with_times(network, short, long, ensure);

@@ -8,7 +8,7 @@ ghost use mathlib.Core.Path.{_≡_};
 ghost use Prim.Native.Nat.{_+_, _≤_};
 ghost use lib.ListN.{length, take, drop};
 ghost use Rattle.fields.specs.Fields.{front, rowAt};
-ghost use Rattle.entries.specs.Entries.{layoutOf, byteEntry, timesEntry, overrunFault, entryOf, entryAt, nextOf};
+ghost use Rattle.entries.specs.Entries.{layoutOf, byteEntry, wide, timesEntry, overrunFault, entryOf, entryAt, nextOf};
 
 // The tag is known and the length is that of the tag.
 pub fn layout_of(tag: u8, length: u16) -> Layout
@@ -51,15 +51,25 @@ pub fn byte_entry(tag: u8, value: u8) -> Entry
     Entry::Partial(value)
 }
 
+// The number at a place of the bytes.
+fn number_at(bytes: &[u8], at: usize) -> u16
+    requires { ⌜ at + 2 ≤ length (now bytes) ⌝ }
+    ensures { λ r. ⌜ r ≡ wide (now (bytes .entry)) at ⌝ }
+{
+    fields::number(bytes[at], bytes[at + 1])
+}
+
 // The field of the times, whose value begins at a place.
 fn times_entry(bytes: &[u8], at: usize) -> Entry
     requires { ⌜ at + 6 ≤ length (now bytes) ⌝ }
     ensures { λ r. ⌜ r ≡ timesEntry (take 6 (drop at (now (bytes .entry)))) ⌝ }
 {
+    let long = at + Field::NUMBER;
+    let ensure = long + Field::NUMBER;
     Entry::Times {
-        short: fields::number(bytes[at], bytes[at + 1]),
-        long: fields::number(bytes[at + 2], bytes[at + 3]),
-        ensure: fields::number(bytes[at + 4], bytes[at + 5]),
+        short: number_at(bytes, at),
+        long: number_at(bytes, long),
+        ensure: number_at(bytes, ensure),
     }
 }
 

@@ -21,6 +21,8 @@ impl Field {
     pub const HEAD: usize = 3;
     // The numbers that a byte can be.
     pub const BYTE: u16 = 256;
+    // The bytes of a number.
+    pub const NUMBER: usize = 2;
 }
 
 // The number that two bytes are, the high byte first.

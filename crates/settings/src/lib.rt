@@ -52,6 +52,8 @@ impl Network {
     pub const TRANSCEIVER_IDS: u8 = 8;
 
     pub const THRESHOLDS: u8 = 255;
+    // No delay and no ensure time is this.
+    pub const NO_TIME: u16 = 0;
 
     pub fn blank() -> Network
         ensures { λ r. ⌜ r ≡ blankNetwork ⌝ }

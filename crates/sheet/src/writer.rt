@@ -68,7 +68,7 @@ fn put_number(buffer: &mut [u8], at: usize, number: u16) -> usize
 {
     buffer[at] = (number / Field::BYTE) as u8;
     buffer[at + 1] = (number % Field::BYTE) as u8;
-    at + 2
+    at + Field::NUMBER
 }
 
 // A tag and a length.

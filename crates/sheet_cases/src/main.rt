@@ -1,5 +1,6 @@
 // Reads stored sheets, good and damaged, and writes what reading each gives, its settings, and the sheet written back.
 // Input: for each sheet two bytes length, high byte first, and the sheet.
+use fields::Field;
 use libc::STDIN_FILENO;
 use libc::STDOUT_FILENO;
 use settings::Network;
@@ -16,8 +17,8 @@ const FILL: u8 = 0xee;
 const AFTER: usize = 2;
 // How many bytes of a buffer that was too short are shown.
 const SHOWN: usize = 4;
-// The bytes of a length before a stored sheet.
-const HEAD: usize = 2;
+// The hexadecimal digits of a byte.
+const DIGITS: usize = 2;
 
 fn put_text(text: &[u8]) {
     io::write_all(STDOUT_FILENO, text);
@@ -42,7 +43,7 @@ fn put_size(number: usize) {
 }
 
 fn put_hex_byte(byte: u8) {
-    io::print_hex(STDOUT_FILENO, byte as u64, 2);
+    io::print_hex(STDOUT_FILENO, byte as u64, DIGITS);
 }
 
 // The first bytes in hexadecimal, at most so many.
@@ -198,14 +199,14 @@ fn run_cases(input: &[u8]) {
     let mut at: usize = 0;
     while at < input.len() {
         let left = input.len() - at;
-        if left < HEAD {
+        if left < Field::NUMBER {
             return;
         }
         let length = fields::number(input[at], input[at + 1]) as usize;
-        if left - HEAD < length {
+        if left - Field::NUMBER < length {
             return;
         }
-        let from = at + HEAD;
+        let from = at + Field::NUMBER;
         let to = from + length;
         case += 1;
         put_reading(case, sheet::read(&input[from..to]));
