@@ -3,11 +3,11 @@ use Prim.Native.Nat.{ℕ, zero, suc, _+_, _≤_, _<_}
 use native.Mathlib.Omega.{arith}
 use native.Mathlib.Numerals.{add-one}
 use mathlib.Core.Path.{_≡_, refl, sym, ap, _∙_}
-use mathlib.Core.List.{List, [], _∷_, _++_}
-use mathlib.Core.Bool.{Bool, true, false, _||_}
+use mathlib.Core.List.{List, [], _∷_, _++_, map}
+use mathlib.Core.Bool.{Bool, true, false, cond, not, _||_, _&&_}
 use lib.ListN.{length, getD, take}
 use lib.Seq.{take-all}
-use Rattle.lists.specs.Lists.{any, first}
+use Rattle.lists.specs.Lists.{any, every, first}
 
 or-left : (a b : Bool) → a || b ≡ false → a ≡ false
 or-left true b e = e
@@ -28,6 +28,22 @@ or-false false = refl
 or-true : (a b : Bool) → b ≡ true → a || b ≡ true
 or-true true b e = refl
 or-true false b e = e
+
+not-or : (a b : Bool) → not (a || b) ≡ not a && not b
+not-or true b = refl
+not-or false b = refl
+
+not-not-or : (a b : Bool) → not (not a || b) ≡ a && not b
+not-not-or true b = refl
+not-not-or false b = refl
+
+and-left : (a b : Bool) → a && b ≡ true → a ≡ true
+and-left true b e = refl
+and-left false b e = e
+
+and-right : (a b : Bool) → a && b ≡ true → b ≡ true
+and-right true b e = e
+and-right false b e = absurd (let z : _≡_ {A = ℕ} 0 1 = cc in omega arith)
 
 module _ {A : Type 0} (p : A → Bool) where
   -- ---- any
@@ -82,3 +98,47 @@ module _ {A : Type 0} (p : A → Bool) where
   first-found (x ∷ l) i zero d e h k f = absurd (omega arith)
   first-found (x ∷ l) zero (suc n) d e h k f = rw f refl
   first-found (x ∷ l) (suc i) (suc n) d e h k f = rw (or-left (p x) _ e) (ap suc (first-found l i n d (or-right (p x) _ e) (omega arith) (omega arith) f))
+
+  -- where some element passes, the first that does is one of the list
+  pub first-below : (l : List A) → any p l ≡ true → first p l < length l
+  unfolding any first
+  first-below [] e = absurd (let z : _≡_ {A = ℕ} 0 1 = cc in omega arith)
+  first-below (x ∷ l) e = by-test (p x) e (first-below l)
+    where
+      by-test : (b : Bool) → b || any p l ≡ true → (any p l ≡ true → first p l < length l) → cond b 0 (suc (first p l)) < length (x ∷ l)
+      by-test true f ih = omega arith
+      by-test false f ih = let h = ih f in omega arith
+
+-- ---- every
+module _ {A : Type 0} (p : A → Bool) where
+  -- every element passes where none fails, and not where one does
+  pub every-true : (l : List A) → any (λ (x : A). not (p x)) l ≡ false → every p l ≡ true
+  unfolding every
+  every-true l e = rw e refl
+
+  pub every-false : (l : List A) → any (λ (x : A). not (p x)) l ≡ true → every p l ≡ false
+  unfolding every
+  every-false l e = rw e refl
+
+  pub every-cons : (x : A) (l : List A) → every p (x ∷ l) ≡ p x && every p l
+  unfolding every any
+  every-cons x l = not-not-or (p x) _
+
+  pub every-append : (l m : List A) → every p (l ++ m) ≡ every p l && every p m
+  unfolding every
+  every-append l m =
+      let fails : A → Bool = λ (x : A). not (p x) in
+      ap not (any-append fails l m) ∙ not-or (any fails l) (any fails m)
+
+  -- another test that every element passes that passes this one
+  pub every-weaken : (q : A → Bool) → ((x : A) → p x ≡ true → q x ≡ true) → (l : List A) → every p l ≡ true → every q l ≡ true
+  unfolding every any
+  every-weaken q h [] e = refl
+  every-weaken q h (x ∷ l) e =
+      let f : p x && every p l ≡ true = sym (every-cons x l) ∙ e in
+      not-not-or (q x) _ ∙ rw (h x (and-left (p x) _ f), every-weaken q h l (and-right (p x) _ f)) refl
+
+pub every-map : {A B : Type 0} (p : B → Bool) (f : A → B) (l : List A) → every p (map f l) ≡ every (λ (x : A). p (f x)) l
+unfolding every any
+every-map p f [] = refl
+every-map {A} p f (x ∷ l) = every-cons p (f x) (map f l) ∙ rw (every-map p f l) (sym (every-cons (λ (y : A). p (f y)) x l))

@@ -3,9 +3,9 @@ use Prim.Native.Nat.{ℕ, zero, suc, _+_, _-_, _≤_, _<_, min}
 use native.Mathlib.Omega.{arith}
 use native.Mathlib.Numerals.{add-one}
 use mathlib.Core.Path.{_≡_, refl, sym, ap, _∙_}
-use mathlib.Core.List.{List, [], _∷_, _++_}
-use lib.ListN.{length, getD, take, drop, set, replicate, length-append, length-replicate, length-take}
-use lib.Seq.{drop-cons, take-suc, take-suc-set, take-all, length-take-le, set-append-seam, append-snoc}
+use mathlib.Core.List.{List, [], _∷_, _++_, map}
+use lib.ListN.{length, getD, take, drop, set, replicate, length-append, length-replicate, length-take, length-map, length-set}
+use lib.Seq.{drop-cons, take-suc, take-suc-set, take-all, length-take-le, set-append-seam, set-append-left, take-set-lt, append-snoc}
 use Rattle.lists.specs.Lists.{padded, Bytes}
 
 module _ {A : Type 0} where
@@ -57,6 +57,21 @@ module _ {A : Type 0} where
 
   pub padded-count : (n : ℕ) (d : A) (l : List A) (k : ℕ) → k ≤ n → l ≡ padded n d (take k l) → length (take k l) ≡ k
   padded-count n d l k h e = length-take-le k l (omega (arith, padded-length n d l k h e))
+
+  -- a store among the first k keeps the filling
+  pub padded-store : (n : ℕ) (d a : A) (l : List A) (k i : ℕ) → l ≡ padded n d (take k l) → i < length (take k l) → set l i a ≡ padded n d (take k (set l i a))
+  padded-store n d a l k i e h =
+      let j : i < k = let t = length-take k l in omega arith in
+      let t : take k (set l i a) ≡ set (take k l) i a = take-set-lt k l i a j in
+      ap (λ (m : List A). set m i a) e
+      ∙ set-append-left (take k l) (replicate (n - length (take k l)) d) i a h
+      ∙ ap (λ (m : ℕ). set (take k l) i a ++ replicate (n - m) d) (sym (length-set (take k l) i a))
+      ∙ ap (padded n d) (sym t)
+
+-- ---- map
+-- a mapped list is as long
+pub unmapped : (A B : Type 0) (f : A → B) (l : List A) (n : ℕ) → length (map f l) ≡ n → length l ≡ n
+unmapped A B f l n e = sym (length-map l f) ∙ e
 
 -- ---- bytes
 pub drop-bytes : (k : ℕ) (l : List ℕ) → Bytes l → Bytes (drop k l)

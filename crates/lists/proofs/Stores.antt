@@ -38,11 +38,20 @@ module _ {A : Type 0} where
 
 -- ---- a list as a run: a run for each element, one after the other
 module _ {A B : Type 0} (run : List A → List B) (run-append : (l m : List A) → run (l ++ m) ≡ run l ++ run m) (l : List A) (i : ℕ) (d : A) (h : i < length l) where
-  run-more : run (take (i + 1) l) ≡ run (take i l) ++ run (getD l i d ∷ [])
+  pub run-more : run (take (i + 1) l) ≡ run (take i l) ++ run (getD l i d ∷ [])
   run-more = ap run (take-more l i d h) ∙ run-append (take i l) (getD l i d ∷ [])
 
   pub length-more : (total more : ℕ) → total ≡ length (run (take i l)) → more ≡ length (run (getD l i d ∷ [])) → total + more ≡ length (run (take (i + 1) l))
   length-more total more p q = omega (arith, ap length run-more ∙ length-append (run (take i l)) (run (getD l i d ∷ [])))
+
+  -- the run of the first n elements is no shorter than that of fewer and of the next
+  pub length-within : (n : ℕ) → i < n → length (run (take i l)) + length (run (getD l i d ∷ [])) ≤ length (run (take n l))
+  length-within n k =
+      let rest : List A = take (n - (i + 1)) (drop (i + 1) l) in
+      let m : n ≡ (i + 1) + (n - (i + 1)) = omega arith in
+      let e : run (take n l) ≡ run (take (i + 1) l) ++ run rest =
+      ap (λ (j : ℕ). run (take j l)) m ∙ ap run (take-add (i + 1) (n - (i + 1)) l) ∙ run-append (take (i + 1) l) rest in
+      omega (arith, length-more _ _ refl refl, ap length e ∙ length-append (run (take (i + 1) l)) (run rest))
 
   module _ {b b₁ : List B} {at to : ℕ} (s : Stored b at (run (take i l)) to b₁) where
     pub stored-more : {b₂ : List B} {next : ℕ} → Stored b₁ to (run (getD l i d ∷ [])) next b₂ → Stored b at (run (take (i + 1) l)) next b₂
@@ -50,9 +59,4 @@ module _ {A B : Type 0} (run : List A → List B) (run-append : (l m : List A) �
 
     -- where there is room for the run of the first n elements there is room for one more
     pub room-more : (n : ℕ) → i < n → at + length (run (take n l)) ≤ length b → to + length (run (getD l i d ∷ [])) ≤ length b₁
-    room-more n k r =
-        let rest : List A = take (n - (i + 1)) (drop (i + 1) l) in
-        let m : n ≡ (i + 1) + (n - (i + 1)) = omega arith in
-        let e : run (take n l) ≡ run (take (i + 1) l) ++ run rest =
-        ap (λ (j : ℕ). run (take j l)) m ∙ ap run (take-add (i + 1) (n - (i + 1)) l) ∙ run-append (take (i + 1) l) rest in
-        omega (arith, s .place, stored-length s, length-more _ _ refl refl, ap length e ∙ length-append (run (take (i + 1) l)) (run rest))
+    room-more n k r = omega (arith, s .place, stored-length s, length-within n k)

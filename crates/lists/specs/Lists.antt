@@ -1,13 +1,17 @@
 -- Definitions on lists that several crates need. Nothing here is about networks.
 use Prim.Native.Nat.{ℕ, suc, _-_, _<_}
 use mathlib.Core.List.{List, [], _∷_, _++_}
-use mathlib.Core.Bool.{Bool, false, cond, _||_}
+use mathlib.Core.Bool.{Bool, false, cond, not, _||_}
 use lib.ListN.{length, replicate}
 
 -- some element passes the test
 unfoldable pub any : {A : Type 0} → (A → Bool) → List A → Bool
 any p [] = false
 any p (x ∷ l) = p x || any p l
+
+-- every element passes the test: none fails it
+unfoldable pub every : {A : Type 0} → (A → Bool) → List A → Bool
+every {A} p l = not (any (λ (x : A). not (p x)) l)
 
 -- how many elements stand before the first that passes the test
 unfoldable pub first : {A : Type 0} → (A → Bool) → List A → ℕ

@@ -1,0 +1,4 @@
+pub mod Laws
+pub mod Moves
+pub mod Kept
+pub mod Theorems

@@ -1,0 +1,61 @@
+-- Answers and reports, from document 01, section "Answers": "A controller answer .. is taken in a controller step that has asked for just that
+-- mode. A transceiver mode .. likewise in 1 and 11. Clear done in 9, check done in 13 and 14, once asked. Else 22."
+use Prim.Native.Nat.{ℕ}
+use mathlib.Core.List.{List}
+use mathlib.Core.Bool.{Bool, true, false, cond}
+use lib.Dec.{eqb}
+use lib.ListN.{set}
+use Rattle.lists.specs.Lists.{first}
+use Rattle.records.specs.Records.{controllerNumber, transceiverNumber}
+use Rattle.settings.specs.declared.Network.{Network}
+use Rattle.settings.specs.Settings.{controllersOf, member}
+use Rattle.steps.specs.declared.Ask.{Ask}
+use Rattle.steps.specs.Steps.{asksFor}
+use Rattle.network.specs.declared.Answer.{Answer}
+use Rattle.network.specs.declared.Heard.{Heard}
+use Rattle.network.specs.declared.Report.{Report}
+use Rattle.network.specs.declared.State.{State}
+use Rattle.network.specs.State.{heard}
+
+-- just this is asked for
+abbrev pub awaits : Ask → Report → Bool
+awaits Ask.Nothing report = false
+awaits (Ask.Controllers asked) (Report.Controller mode) = eqb (controllerNumber asked) mode
+awaits (Ask.Controllers asked) (Report.Transceiver mode) = false
+awaits (Ask.Controllers asked) Report.Cleared = false
+awaits (Ask.Controllers asked) Report.Checked = false
+awaits (Ask.Transceiver asked) (Report.Controller mode) = false
+awaits (Ask.Transceiver asked) (Report.Transceiver mode) = eqb (transceiverNumber asked) mode
+awaits (Ask.Transceiver asked) Report.Cleared = false
+awaits (Ask.Transceiver asked) Report.Checked = false
+awaits Ask.ClearWake (Report.Controller mode) = false
+awaits Ask.ClearWake (Report.Transceiver mode) = false
+awaits Ask.ClearWake Report.Cleared = true
+awaits Ask.ClearWake Report.Checked = false
+awaits Ask.CheckWake (Report.Controller mode) = false
+awaits Ask.CheckWake (Report.Transceiver mode) = false
+awaits Ask.CheckWake Report.Cleared = false
+awaits Ask.CheckWake Report.Checked = true
+
+unfoldable pub takesReport : State → Report → Bool
+takesReport s report = cond (s .asked) (awaits (asksFor (s .step)) report) false
+
+abbrev pub answerOf : Bool → Answer
+answerOf ok = cond ok Answer.Okay Answer.Refused
+
+-- the answers with one of them new
+abbrev pub withAnswers : State → List Heard → State
+withAnswers s answers =
+    record { step = s .step; wanted = s .wanted; told = s .told; count = s .count; asked = s .asked; answers = answers; reported = s .reported }
+
+-- "each controller's last answer in this step": the controller's slot holds its latest answer
+unfoldable pub afterAnswer : Network → State → ℕ → Bool → State
+afterAnswer n s id ok =
+    cond (member id (controllersOf n))
+    (withAnswers s (set (s .answers) (first (λ (x : ℕ). eqb x id) (controllersOf n)) (heard (answerOf ok))))
+    s
+
+-- "whether its transceiver, clear or check report has come"
+unfoldable pub afterReport : State → State
+afterReport s =
+    record { step = s .step; wanted = s .wanted; told = s .told; count = s .count; asked = s .asked; answers = s .answers; reported = true }

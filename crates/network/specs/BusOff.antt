@@ -1,0 +1,60 @@
+-- A bus-off, from document 01, section "Bus-off": "In 4 to 8: count up by one, staying at 255; 8 prefailed, 6 silent, 7 bus-off; step 6, not
+-- asked, answers forgotten. In 3: not asked, answers forgotten, nothing handed out. Elsewhere 22."
+use Prim.Native.Nat.{ℕ, _+_}
+use mathlib.Core.List.{List, []}
+use mathlib.Core.Bool.{Bool, true, false, cond}
+use lib.Dec.{ltb}
+use Rattle.records.specs.declared.Record.{Record}
+use Rattle.records.specs.declared.Mode.{Mode}
+use Rattle.settings.specs.declared.Network.{Network}
+use Rattle.handing.specs.Handing.{recovery}
+use Rattle.steps.specs.declared.Step.{Step}
+use Rattle.steps.specs.declared.Step.the-variants.{NoCommunication, TransceiverNormal, ControllersStopped, ControllersStarted, Checking, Full, Restarting, Waiting, Silent, ClearWake, DownStopped, TransceiverStandby, ControllersSleep, CheckWake, CheckWakeAgain}
+use Rattle.steps.specs.Steps.{isUp}
+use Rattle.network.specs.declared.Hit.{Hit}
+use Rattle.network.specs.declared.State.{State}
+use Rattle.network.specs.State.{blankAnswers}
+
+-- step 3
+abbrev pub isStarting : Step → Bool
+isStarting NoCommunication = false
+isStarting TransceiverNormal = false
+isStarting ControllersStopped = false
+isStarting ControllersStarted = true
+isStarting (Checking t) = false
+isStarting Full = false
+isStarting Restarting = false
+isStarting (Waiting t) = false
+isStarting Silent = false
+isStarting ClearWake = false
+isStarting DownStopped = false
+isStarting TransceiverStandby = false
+isStarting ControllersSleep = false
+isStarting CheckWake = false
+isStarting CheckWakeAgain = false
+
+unfoldable pub hitOf : Step → Hit
+hitOf step = cond (isUp step) Hit.Recover (cond (isStarting step) Hit.Restart Hit.NotTaken)
+
+-- "count up by one, staying at 255"
+abbrev pub raised : ℕ → ℕ
+raised count = cond (ltb count 255) (count + 1) count
+
+-- the count after a bus-off taken in a step: each counts
+abbrev pub countedIn : Step → ℕ → ℕ
+countedIn step count = raised count
+
+-- "not asked, answers forgotten"
+unfoldable pub madeAnew : State → Step → Mode → ℕ → State
+madeAnew s step told count =
+    record { step = step; wanted = s .wanted; told = told; count = count; asked = false; answers = blankAnswers; reported = false }
+
+unfoldable pub afterHit : State → Hit → State
+afterHit s Hit.Recover = madeAnew s Restarting Mode.Silent (countedIn (s .step) (s .count))
+afterHit s Hit.Restart = madeAnew s (s .step) (s .told) (s .count)
+afterHit s Hit.NotTaken = s
+
+unfoldable pub hitRecords : Network → Hit → List Record
+hitRecords n Hit.Recover = recovery (n .handle)
+hitRecords n Hit.Restart = []
+hitRecords n Hit.NotTaken = []

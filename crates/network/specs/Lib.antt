@@ -1,0 +1,7 @@
+pub mod State
+pub mod Rules
+pub mod Moving
+pub mod Answers
+pub mod BusOff
+pub mod Kept
+pub mod Examples

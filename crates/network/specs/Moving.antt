@@ -1,0 +1,93 @@
+-- The record of a network after a move, from document 01, sections "Asking steps" and "Tick".
+use Prim.Native.Nat.{ℕ}
+use mathlib.Core.List.{List}
+use mathlib.Core.Bool.{Bool, true, false, cond}
+use Rattle.records.specs.declared.Record.{Record}
+use Rattle.records.specs.declared.Mode.{Mode}
+use Rattle.settings.specs.declared.Network.{Network}
+use Rattle.steps.specs.declared.Move.{Move}
+use Rattle.steps.specs.declared.Move.the-variants.{Stay, AskAgain, Count, EnterFull, EnterSilent, Pass, Wait, GoDown, EnterNoCommunication, Enter}
+use Rattle.steps.specs.After.{stepAfter}
+use Rattle.handing.specs.Handing.{moveRecords}
+use Rattle.network.specs.declared.State.{State}
+use Rattle.network.specs.State.{blankAnswers}
+use Rattle.network.specs.Rules.{moveOf}
+
+-- "Go down: .. 6 silent if told full"
+abbrev pub lowered : Mode → Mode
+lowered Mode.No = Mode.No
+lowered Mode.Silent = Mode.Silent
+lowered Mode.Full = Mode.Silent
+
+-- the mode last told by kind 6: "Enter full: .. 6 full", "Enter silent: .. 6 silent", "Enter 0: 6 no"
+abbrev pub toldAfter : Move → Mode → Mode
+toldAfter Stay told = told
+toldAfter AskAgain told = told
+toldAfter Count told = told
+toldAfter EnterFull told = Mode.Full
+toldAfter EnterSilent told = Mode.Silent
+toldAfter Pass told = told
+toldAfter Wait told = told
+toldAfter GoDown told = lowered told
+toldAfter EnterNoCommunication told = Mode.No
+toldAfter (Enter next) told = told
+
+-- "at the ensure time: 8 passed, count 0": "only passed does"
+abbrev pub countAfter : Move → ℕ → ℕ
+countAfter Stay count = count
+countAfter AskAgain count = count
+countAfter Count count = count
+countAfter EnterFull count = count
+countAfter EnterSilent count = count
+countAfter Pass count = 0
+countAfter Wait count = count
+countAfter GoDown count = count
+countAfter EnterNoCommunication count = count
+countAfter (Enter next) count = count
+
+-- "Entering one by a tick .. counts as asked. A later tick .. sends them all again and sets asked"
+abbrev pub asksAfter : Move → Bool → Bool
+asksAfter Stay asked = asked
+asksAfter AskAgain asked = true
+asksAfter Count asked = asked
+asksAfter EnterFull asked = false
+asksAfter EnterSilent asked = false
+asksAfter Pass asked = false
+asksAfter Wait asked = false
+asksAfter GoDown asked = true
+asksAfter EnterNoCommunication asked = false
+asksAfter (Enter next) asked = true
+
+-- "Entering one by a tick forgets answers"; "what is already answered stays"
+abbrev pub keepsAnswers : Move → Bool
+keepsAnswers Stay = true
+keepsAnswers AskAgain = true
+keepsAnswers Count = true
+keepsAnswers EnterFull = false
+keepsAnswers EnterSilent = false
+keepsAnswers Pass = false
+keepsAnswers Wait = false
+keepsAnswers GoDown = false
+keepsAnswers EnterNoCommunication = false
+keepsAnswers (Enter next) = false
+
+-- the record after a move
+unfoldable pub afterMove : Network → State → Move → State
+afterMove n s m =
+    record {
+      step = stepAfter m (s .step) (n .partial);
+      wanted = s .wanted;
+      told = toldAfter m (s .told);
+      count = countAfter m (s .count);
+      asked = asksAfter m (s .asked);
+      answers = cond (keepsAnswers m) (s .answers) blankAnswers;
+      reported = cond (keepsAnswers m) (s .reported) false;
+    }
+
+-- the record after a tick
+unfoldable pub tickState : Network → State → State
+tickState n s = afterMove n s (moveOf n s)
+
+-- what a tick hands out
+unfoldable pub tickRecords : Network → State → List Record
+tickRecords n s = moveRecords n (s .step) (s .told) (moveOf n s)

@@ -1,0 +1,41 @@
+-- The record of a network, from document 01, section "The fifteen steps", at the start and after a request.
+-- A record has one form: in a step that asks nothing, asked is no and nothing is kept as answered; unused slots are pending.
+use Prim.Native.Nat.{ℕ}
+use mathlib.Core.List.{List}
+use mathlib.Core.Bool.{Bool, true, false}
+use lib.ListN.{take, replicate}
+use Rattle.records.specs.declared.Mode.{Mode}
+use Rattle.settings.specs.declared.Network.{Network}
+use Rattle.settings.specs.Settings.{mostControllers}
+use Rattle.steps.specs.declared.Step.{Step}
+use Rattle.steps.specs.Steps.{isUp}
+use Rattle.steps.specs.Decision.{byMode}
+use Rattle.steps.specs.After.{firstDown}
+use Rattle.network.specs.declared.Answer.{Answer}
+use Rattle.network.specs.declared.Heard.{Heard}
+use Rattle.network.specs.declared.State.{State}
+
+abbrev pub heard : Answer → Heard
+heard answer = record { answer = answer }
+
+-- no controller has answered
+abbrev pub blankAnswers : List Heard
+blankAnswers = replicate mostControllers (heard Answer.Pending)
+
+-- the last answers of the network's controllers, in the order of the sheet
+abbrev pub heardOf : Network → State → List Heard
+heardOf n s = take (n .count) (s .answers)
+
+-- "Start puts each network in its first down step (9 with PN, else 10), not asked, wanted and told mode no, count 0"
+unfoldable pub started : Network → State
+started n =
+    record { step = firstDown (n .partial); wanted = Mode.No; told = Mode.No; count = 0; asked = false; answers = blankAnswers; reported = false }
+
+-- "Request stores the wanted mode, nothing else"
+unfoldable pub wants : State → Mode → State
+wants s mode =
+    record { step = s .step; wanted = mode; told = s .told; count = s .count; asked = s .asked; answers = s .answers; reported = s .reported }
+
+-- "08: silent asked for in a step other than 4 to 8"
+abbrev pub mayWant : Step → Mode → Bool
+mayWant step mode = byMode mode true (isUp step) true

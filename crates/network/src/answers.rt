@@ -1,0 +1,93 @@
+// Answers of controllers, and reports of a transceiver.
+use crate::Answer;
+use crate::Heard;
+use crate::Report;
+use crate::State;
+use settings::Network;
+use steps::Ask;
+ghost use mathlib.Core.Path.{_≡_};
+ghost use Rattle.network.specs.Answers.{awaits, takesReport, answerOf, afterAnswer, afterReport};
+
+// Just this is what the step asks for.
+fn is_awaited(ask: Ask, report: Report) -> bool
+    ensures { λ r. ⌜ r ≡ awaits ask report ⌝ }
+{
+    match ask {
+        Ask::Nothing => false,
+        Ask::Controllers(asked) => match report {
+            Report::Controller(mode) => asked.number() == mode,
+            Report::Transceiver(_) => false,
+            Report::Cleared => false,
+            Report::Checked => false,
+        },
+        Ask::Transceiver(asked) => match report {
+            Report::Controller(_) => false,
+            Report::Transceiver(mode) => asked.number() == mode,
+            Report::Cleared => false,
+            Report::Checked => false,
+        },
+        Ask::ClearWake => match report {
+            Report::Controller(_) => false,
+            Report::Transceiver(_) => false,
+            Report::Cleared => true,
+            Report::Checked => false,
+        },
+        Ask::CheckWake => match report {
+            Report::Controller(_) => false,
+            Report::Transceiver(_) => false,
+            Report::Cleared => false,
+            Report::Checked => true,
+        },
+    }
+}
+
+// The step takes this: it has asked for just this.
+pub fn takes(state: State, report: Report) -> bool
+    ensures { λ r. ⌜ r ≡ takesReport state report ⌝ }
+{
+    if state.asked {
+        let step = state.step;
+        let ask = step.asks();
+        return is_awaited(ask, report);
+    }
+    false
+}
+
+fn answer_of(ok: bool) -> Answer
+    ensures { λ r. ⌜ r ≡ answerOf ok ⌝ }
+{
+    if ok { Answer::Okay } else { Answer::Refused }
+}
+
+// The record with this answer of the controller.
+pub fn with_answer(network: Network, state: State, id: u8, ok: bool) -> State
+    ensures { λ r. ⌜ r ≡ afterAnswer network state id ok ⌝ }
+{
+    let count = network.count;
+    let ids = network.controllers;
+    let heard = Heard {
+        answer: answer_of(ok),
+    };
+    let mut i: u8 = 0;
+    while (i as usize) < Network::MOST_CONTROLLERS {
+        if count <= i {
+            return state;
+        }
+        if ids[i as usize] == id {
+            let mut next = state;
+            next.answers[i as usize] = heard;
+            return next;
+        }
+        i += 1;
+    }
+    state
+}
+
+// The record with the report that was asked for.
+pub fn with_report(state: State) -> State
+    ensures { λ r. ⌜ r ≡ afterReport state ⌝ }
+{
+    let mut next = state;
+    next.reported = true;
+    next
+}

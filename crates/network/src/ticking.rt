@@ -1,0 +1,208 @@
+// One network's tick: the conditions, the decision, and what follows from it.
+use crate::Answer;
+use crate::Heard;
+use crate::State;
+use crate::Ticked;
+use crate::moving::after_move;
+use settings::Network;
+use settings::Transceiver;
+use steps::Ask;
+use steps::Move;
+use steps::Outfit;
+use steps::Step;
+ghost use mathlib.Core.Path.{_≡_};
+ghost use Rattle.lists.specs.Lists.{any, every};
+ghost use Rattle.records.specs.Wrote.{Room, Wrote};
+ghost use Rattle.network.specs.State.{heardOf};
+ghost use Rattle.network.specs.Rules.{isOkay, isRefusal, isDone, isSleep, isLong, delayOf, reachedBy, outfitOf, moveOf};
+ghost use Rattle.network.specs.Moving.{tickState, tickRecords};
+
+// ---- the answers
+
+fn is_okay(heard: Heard) -> bool
+    ensures { λ r. ⌜ r ≡ isOkay heard ⌝ }
+{
+    let answer = heard.answer;
+    match answer {
+        Answer::Pending => false,
+        Answer::Okay => true,
+        Answer::Refused => false,
+    }
+}
+
+fn is_refusal(heard: Heard) -> bool
+    ensures { λ r. ⌜ r ≡ isRefusal heard ⌝ }
+{
+    let answer = heard.answer;
+    match answer {
+        Answer::Pending => false,
+        Answer::Okay => false,
+        Answer::Refused => true,
+    }
+}
+
+// Every controller's last answer is ok.
+fn all_okay(network: Network, state: State) -> bool
+    ensures { λ r. ⌜ r ≡ every isOkay (heardOf network state) ⌝ }
+{
+    let count = network.count;
+    let answers = state.answers;
+    let mut i: u8 = 0;
+    while (i as usize) < Network::MOST_CONTROLLERS {
+        if count <= i {
+            return true;
+        }
+        let heard = answers[i as usize];
+        if is_okay(heard) {
+            i += 1;
+        } else {
+            return false;
+        }
+    }
+    true
+}
+
+// Some controller's last answer is a refusal.
+fn any_refused(network: Network, state: State) -> bool
+    ensures { λ r. ⌜ r ≡ any isRefusal (heardOf network state) ⌝ }
+{
+    let count = network.count;
+    let answers = state.answers;
+    let mut i: u8 = 0;
+    while (i as usize) < Network::MOST_CONTROLLERS {
+        if count <= i {
+            return false;
+        }
+        let heard = answers[i as usize];
+        if is_refusal(heard) {
+            return true;
+        }
+        i += 1;
+    }
+    false
+}
+
+// ---- the conditions of the decision
+
+// Asked, and answered or reported as asked.
+fn is_done(network: Network, state: State) -> bool
+    ensures { λ r. ⌜ r ≡ isDone network state ⌝ }
+{
+    if state.asked {
+        let step = state.step;
+        return match step.asks() {
+            Ask::Nothing => false,
+            Ask::Controllers(_) => all_okay(network, state),
+            Ask::Transceiver(_) => state.reported,
+            Ask::ClearWake => state.reported,
+            Ask::CheckWake => state.reported,
+        };
+    }
+    false
+}
+
+// Step 12, the only one in which a refusal decides.
+fn is_sleep(step: Step) -> bool
+    ensures { λ r. ⌜ r ≡ isSleep step ⌝ }
+{
+    match step {
+        Step::NoCommunication => false,
+        Step::TransceiverNormal => false,
+        Step::ControllersStopped => false,
+        Step::ControllersStarted => false,
+        Step::Checking(_) => false,
+        Step::Full => false,
+        Step::Restarting => false,
+        Step::Waiting(_) => false,
+        Step::Silent => false,
+        Step::ClearWake => false,
+        Step::DownStopped => false,
+        Step::TransceiverStandby => false,
+        Step::ControllersSleep => true,
+        Step::CheckWake => false,
+        Step::CheckWakeAgain => false,
+    }
+}
+
+// The long delay: the count is above the threshold.
+fn is_long(threshold: u8, count: u8) -> bool
+    ensures { λ r. ⌜ r ≡ isLong threshold count ⌝ }
+{
+    threshold < count
+}
+
+fn delay_of(network: Network, count: u8) -> u16
+    ensures { λ r. ⌜ r ≡ delayOf network count ⌝ }
+{
+    if is_long(network.threshold, count) {
+        return network.long;
+    }
+    network.short
+}
+
+// The tick count reaches its time with this tick.
+fn is_reached(step: Step, ensure: u16, delay: u16) -> bool
+    ensures { λ r. ⌜ r ≡ reachedBy step ensure delay ⌝ }
+{
+    match step {
+        Step::NoCommunication => false,
+        Step::TransceiverNormal => false,
+        Step::ControllersStopped => false,
+        Step::ControllersStarted => false,
+        Step::Checking(ticks) => (ensure as u32) <= (ticks as u32) + 1,
+        Step::Full => false,
+        Step::Restarting => false,
+        Step::Waiting(ticks) => (delay as u32) <= (ticks as u32) + 1,
+        Step::Silent => false,
+        Step::ClearWake => false,
+        Step::DownStopped => false,
+        Step::TransceiverStandby => false,
+        Step::ControllersSleep => false,
+        Step::CheckWake => false,
+        Step::CheckWakeAgain => false,
+    }
+}
+
+fn outfit_of(transceiver: Transceiver, partial: bool) -> Outfit
+    ensures { λ r. ⌜ r ≡ outfitOf transceiver partial ⌝ }
+{
+    match transceiver {
+        Transceiver::Absent => Outfit::Bare,
+        Transceiver::Present(_) => if partial {
+            Outfit::Partial
+        } else {
+            Outfit::Fitted
+        },
+    }
+}
+
+// What this tick does. Refusals are looked for only where they decide.
+fn choose(network: Network, state: State) -> Move
+    ensures { λ r. ⌜ r ≡ moveOf network state ⌝ }
+{
+    let step = state.step;
+    let wanted = state.wanted;
+    let transceiver = network.transceiver;
+    let done = is_done(network, state);
+    let delay = delay_of(network, state.count);
+    let reached = is_reached(step, network.ensure, delay);
+    let outfit = outfit_of(transceiver, network.partial);
+    if is_sleep(step) {
+        let refused = any_refused(network, state);
+        return steps::decide(step, wanted, done, refused, reached, outfit);
+    }
+    steps::decide(step, wanted, done, false, reached, outfit)
+}
+
+// One network's tick: what it hands out is written from record number k on.
+pub fn tick(network: Network, state: State, out: &mut [u8], k: usize) -> Ticked
+    requires { ⌜ Room (now out) k (tickRecords network state) ⌝ }
+    ensures { λ r. ⌜ (r .state ≡ tickState network state) × Wrote (now (out .entry)) (now (out .exit)) k (r .next) (tickRecords network state) ⌝ }
+{
+    let to = choose(network, state);
+    let step = state.step;
+    let told = state.told;
+    let next = handing::put_move(out, k, network, step, told, to);
+    let after = after_move(network, state, to);
+    Ticked { state: after, next }
+}

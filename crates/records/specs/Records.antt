@@ -1,0 +1,77 @@
+-- The records handed out, from document 01, section "Records handed out": "Three bytes: kind, target, argument".
+use Prim.Native.Nat.{ℕ}
+use mathlib.Core.List.{List, [], _∷_}
+use Rattle.records.specs.declared.Record.{Record}
+use Rattle.records.specs.declared.ControllerMode.{ControllerMode}
+use Rattle.records.specs.declared.TransceiverMode.{TransceiverMode}
+use Rattle.records.specs.declared.PduMode.{PduMode}
+use Rattle.records.specs.declared.Mode.{Mode}
+use Rattle.records.specs.declared.Notice.{Notice}
+use Rattle.records.specs.declared.Event.{Event}
+
+-- "1 controller mode (0 stopped, 1 started, 2 sleep)"
+abbrev pub controllerNumber : ControllerMode → ℕ
+controllerNumber ControllerMode.Stopped = 0
+controllerNumber ControllerMode.Started = 1
+controllerNumber ControllerMode.Sleep = 2
+
+-- "2 transceiver mode (0 normal, 1 standby)"
+abbrev pub transceiverNumber : TransceiverMode → ℕ
+transceiverNumber TransceiverMode.Normal = 0
+transceiverNumber TransceiverMode.Standby = 1
+
+-- "3 PDU mode of a controller (0 online, 1 TX offline)"
+abbrev pub pduNumber : PduMode → ℕ
+pduNumber PduMode.Online = 0
+pduNumber PduMode.TxOffline = 1
+
+-- "6 communication manager (0 no, 1 silent, 2 full)"
+abbrev pub modeNumber : Mode → ℕ
+modeNumber Mode.No = 0
+modeNumber Mode.Silent = 1
+modeNumber Mode.Full = 2
+
+-- "7 mode manager (0 no, 1 silent, 2 full, 3 bus-off)"
+abbrev pub noticeNumber : Notice → ℕ
+noticeNumber Notice.No = 0
+noticeNumber Notice.Silent = 1
+noticeNumber Notice.Full = 2
+noticeNumber Notice.BusOff = 3
+
+-- "8 event manager (0 passed, 1 prefailed)"
+abbrev pub eventNumber : Event → ℕ
+eventNumber Event.Passed = 0
+eventNumber Event.Prefailed = 1
+
+abbrev pub handed : ℕ → ℕ → ℕ → Record
+handed kind target argument = record { kind = kind; target = target; argument = argument }
+
+-- "Kinds 1 and 3 name a controller, 2, 4, 5 a transceiver, 6 to 8 a handle"; "argument 0 for both" wake flag kinds
+abbrev pub controllerMode : ℕ → ControllerMode → Record
+controllerMode id mode = handed 1 id (controllerNumber mode)
+
+abbrev pub transceiverMode : ℕ → TransceiverMode → Record
+transceiverMode id mode = handed 2 id (transceiverNumber mode)
+
+abbrev pub pduMode : ℕ → PduMode → Record
+pduMode id mode = handed 3 id (pduNumber mode)
+
+abbrev pub clearWake : ℕ → Record
+clearWake id = handed 4 id 0
+
+abbrev pub checkWake : ℕ → Record
+checkWake id = handed 5 id 0
+
+abbrev pub tells : ℕ → Mode → Record
+tells handle mode = handed 6 handle (modeNumber mode)
+
+abbrev pub notes : ℕ → Notice → Record
+notes handle notice = handed 7 handle (noticeNumber notice)
+
+abbrev pub reports : ℕ → Event → Record
+reports handle event = handed 8 handle (eventNumber event)
+
+-- the bytes of records
+unfoldable pub bytes : List Record → List ℕ
+bytes [] = []
+bytes (r ∷ rs) = r .kind ∷ r .target ∷ r .argument ∷ bytes rs

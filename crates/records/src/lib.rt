@@ -1,0 +1,272 @@
+// The records handed out: three bytes each, kind, target and argument, from the front of a lent buffer.
+ghost use mathlib.Core.Path.{_≡_};
+ghost use mathlib.Core.List.{[], _∷_};
+ghost use Rattle.records.specs.Records.{controllerNumber, transceiverNumber, pduNumber, modeNumber, noticeNumber, eventNumber, controllerMode, transceiverMode, pduMode, clearWake, checkWake, tells, notes, reports};
+ghost use Rattle.records.specs.Wrote.{Room, Wrote};
+
+// A record handed out.
+pub struct Record {
+    pub kind: u8,
+    pub target: u8,
+    pub argument: u8,
+}
+
+// What a controller can be asked for.
+pub enum ControllerMode {
+    Stopped,
+    Started,
+    Sleep,
+}
+
+impl ControllerMode {
+    pub const STOPPED: u8 = 0;
+
+    pub const STARTED: u8 = 1;
+
+    pub const SLEEP: u8 = 2;
+
+    pub fn number(self) -> u8
+        ensures { λ r. ⌜ r ≡ controllerNumber self ⌝ }
+    {
+        match self {
+            ControllerMode::Stopped => ControllerMode::STOPPED,
+            ControllerMode::Started => ControllerMode::STARTED,
+            ControllerMode::Sleep => ControllerMode::SLEEP,
+        }
+    }
+}
+
+// What a transceiver can be asked for.
+pub enum TransceiverMode {
+    Normal,
+    Standby,
+}
+
+impl TransceiverMode {
+    pub const NORMAL: u8 = 0;
+
+    pub const STANDBY: u8 = 1;
+
+    pub fn number(self) -> u8
+        ensures { λ r. ⌜ r ≡ transceiverNumber self ⌝ }
+    {
+        match self {
+            TransceiverMode::Normal => TransceiverMode::NORMAL,
+            TransceiverMode::Standby => TransceiverMode::STANDBY,
+        }
+    }
+}
+
+// The PDU mode of a controller.
+pub enum PduMode {
+    Online,
+    TxOffline,
+}
+
+impl PduMode {
+    pub const ONLINE: u8 = 0;
+
+    pub const TX_OFFLINE: u8 = 1;
+
+    pub fn number(self) -> u8
+        ensures { λ r. ⌜ r ≡ pduNumber self ⌝ }
+    {
+        match self {
+            PduMode::Online => PduMode::ONLINE,
+            PduMode::TxOffline => PduMode::TX_OFFLINE,
+        }
+    }
+}
+
+// A communication mode: wanted, told, polled.
+pub enum Mode {
+    No,
+    Silent,
+    Full,
+}
+
+impl Mode {
+    pub const NO: u8 = 0;
+
+    pub const SILENT: u8 = 1;
+
+    pub const FULL: u8 = 2;
+
+    pub fn number(self) -> u8
+        ensures { λ r. ⌜ r ≡ modeNumber self ⌝ }
+    {
+        match self {
+            Mode::No => Mode::NO,
+            Mode::Silent => Mode::SILENT,
+            Mode::Full => Mode::FULL,
+        }
+    }
+}
+
+// What the mode manager is told.
+pub enum Notice {
+    No,
+    Silent,
+    Full,
+    BusOff,
+}
+
+impl Notice {
+    pub const NO: u8 = 0;
+
+    pub const SILENT: u8 = 1;
+
+    pub const FULL: u8 = 2;
+
+    pub const BUS_OFF: u8 = 3;
+
+    pub fn number(self) -> u8
+        ensures { λ r. ⌜ r ≡ noticeNumber self ⌝ }
+    {
+        match self {
+            Notice::No => Notice::NO,
+            Notice::Silent => Notice::SILENT,
+            Notice::Full => Notice::FULL,
+            Notice::BusOff => Notice::BUS_OFF,
+        }
+    }
+}
+
+// What the event manager is told.
+pub enum Event {
+    Passed,
+    Prefailed,
+}
+
+impl Event {
+    pub const PASSED: u8 = 0;
+
+    pub const PREFAILED: u8 = 1;
+
+    pub fn number(self) -> u8
+        ensures { λ r. ⌜ r ≡ eventNumber self ⌝ }
+    {
+        match self {
+            Event::Passed => Event::PASSED,
+            Event::Prefailed => Event::PREFAILED,
+        }
+    }
+}
+
+impl Record {
+    // The bytes of a record.
+    pub const SIZE: usize = 3;
+    // The kinds. The first and the third name a controller, the second, the fourth and the fifth a transceiver, the others a handle.
+    pub const CONTROLLER_MODE: u8 = 1;
+
+    pub const TRANSCEIVER_MODE: u8 = 2;
+
+    pub const PDU_MODE: u8 = 3;
+
+    pub const CLEAR_WAKE: u8 = 4;
+
+    pub const CHECK_WAKE: u8 = 5;
+
+    pub const COMMUNICATION: u8 = 6;
+
+    pub const MODES: u8 = 7;
+
+    pub const EVENTS: u8 = 8;
+    // The argument of the kinds that have none.
+    pub const NOTHING: u8 = 0;
+
+    pub fn controller_mode(id: u8, mode: ControllerMode) -> Record
+        ensures { λ r. ⌜ r ≡ controllerMode id mode ⌝ }
+    {
+        Record {
+            kind: Record::CONTROLLER_MODE,
+            target: id,
+            argument: mode.number(),
+        }
+    }
+
+    pub fn transceiver_mode(id: u8, mode: TransceiverMode) -> Record
+        ensures { λ r. ⌜ r ≡ transceiverMode id mode ⌝ }
+    {
+        Record {
+            kind: Record::TRANSCEIVER_MODE,
+            target: id,
+            argument: mode.number(),
+        }
+    }
+
+    pub fn pdu_mode(id: u8, mode: PduMode) -> Record
+        ensures { λ r. ⌜ r ≡ pduMode id mode ⌝ }
+    {
+        Record {
+            kind: Record::PDU_MODE,
+            target: id,
+            argument: mode.number(),
+        }
+    }
+
+    pub fn clear_wake(id: u8) -> Record
+        ensures { λ r. ⌜ r ≡ clearWake id ⌝ }
+    {
+        Record {
+            kind: Record::CLEAR_WAKE,
+            target: id,
+            argument: Record::NOTHING,
+        }
+    }
+
+    pub fn check_wake(id: u8) -> Record
+        ensures { λ r. ⌜ r ≡ checkWake id ⌝ }
+    {
+        Record {
+            kind: Record::CHECK_WAKE,
+            target: id,
+            argument: Record::NOTHING,
+        }
+    }
+
+    // The communication manager is told a mode.
+    pub fn tell(handle: u8, mode: Mode) -> Record
+        ensures { λ r. ⌜ r ≡ tells handle mode ⌝ }
+    {
+        Record {
+            kind: Record::COMMUNICATION,
+            target: handle,
+            argument: mode.number(),
+        }
+    }
+
+    // The mode manager is told.
+    pub fn note(handle: u8, notice: Notice) -> Record
+        ensures { λ r. ⌜ r ≡ notes handle notice ⌝ }
+    {
+        Record {
+            kind: Record::MODES,
+            target: handle,
+            argument: notice.number(),
+        }
+    }
+
+    // The event manager is told.
+    pub fn report(handle: u8, event: Event) -> Record
+        ensures { λ r. ⌜ r ≡ reports handle event ⌝ }
+    {
+        Record {
+            kind: Record::EVENTS,
+            target: handle,
+            argument: event.number(),
+        }
+    }
+}
+
+// Record number k of the lent buffer is now this one; the answer is the number of the next.
+pub fn put_record(out: &mut [u8], k: usize, handed: Record) -> usize
+    requires { ⌜ Room (now out) k (handed ∷ []) ⌝ }
+    ensures { λ n. ⌜ Wrote (now (out .entry)) (now (out .exit)) k n (handed ∷ []) ⌝ }
+{
+    let at = Record::SIZE * k;
+    out[at] = handed.kind;
+    out[at + 1] = handed.target;
+    out[at + 2] = handed.argument;
+    k + 1
+}

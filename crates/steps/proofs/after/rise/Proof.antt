@@ -1,0 +1,17 @@
+-- `steps::after::rise` meets its contract. Assumes nothing.
+use borrow.Author.Tests.{lt-ltb, le-ltb}
+use borrow.Author.Needs.{needs}
+use Rattle.steps.proofs.after.rise.Statement.{statement}
+use Rattle.steps.proofs.after.rise.Tie as tie
+
+add-result : tie.Need-add-result
+add-result c = search needs
+
+returns : tie.Need-returns
+returns c = simp (lt-ltb _ _ (c .if1 .taken))
+
+returns-2 : tie.Need-returns-2
+returns-2 c = simp (le-ltb _ _ (c .if1 .left))
+
+pub rise-spec : {M : Type 1} → statement M
+rise-spec = tie.close (tie.spec add-result returns returns-2)

@@ -1,0 +1,433 @@
+-- `steps::decision::go_on` meets its contract. Assumes nothing.
+use borrow.Author.Needs.{needs}
+use Rattle.steps.proofs.decision.go_on.Statement.{statement}
+use Rattle.steps.proofs.decision.go_on.Tie as tie
+
+enum-told : tie.Need-enum-told
+enum-told c = search needs
+
+enum-told-2 : tie.Need-enum-told-2
+enum-told-2 c = search needs
+
+enum-told-3 : tie.Need-enum-told-3
+enum-told-3 c = search needs
+
+enum-told-4 : tie.Need-enum-told-4
+enum-told-4 c = search needs
+
+enum-told-5 : tie.Need-enum-told-5
+enum-told-5 c = search needs
+
+enum-told-6 : tie.Need-enum-told-6
+enum-told-6 c = search needs
+
+enum-told-7 : tie.Need-enum-told-7
+enum-told-7 c = search needs
+
+enum-told-8 : tie.Need-enum-told-8
+enum-told-8 c = search needs
+
+enum-told-9 : tie.Need-enum-told-9
+enum-told-9 c = search needs
+
+enum-told-10 : tie.Need-enum-told-10
+enum-told-10 c = search needs
+
+enum-told-11 : tie.Need-enum-told-11
+enum-told-11 c = search needs
+
+enum-told-12 : tie.Need-enum-told-12
+enum-told-12 c = search needs
+
+enum-told-13 : tie.Need-enum-told-13
+enum-told-13 c = search needs
+
+enum-told-14 : tie.Need-enum-told-14
+enum-told-14 c = search needs
+
+enum-told-15 : tie.Need-enum-told-15
+enum-told-15 c = search needs
+
+enum-told-16 : tie.Need-enum-told-16
+enum-told-16 c = search needs
+
+enum-told-17 : tie.Need-enum-told-17
+enum-told-17 c = search needs
+
+enum-told-18 : tie.Need-enum-told-18
+enum-told-18 c = search needs
+
+enum-told-19 : tie.Need-enum-told-19
+enum-told-19 c = search needs
+
+enum-told-20 : tie.Need-enum-told-20
+enum-told-20 c = search needs
+
+enum-told-21 : tie.Need-enum-told-21
+enum-told-21 c = search needs
+
+enum-told-22 : tie.Need-enum-told-22
+enum-told-22 c = search needs
+
+enum-told-23 : tie.Need-enum-told-23
+enum-told-23 c = search needs
+
+enum-told-24 : tie.Need-enum-told-24
+enum-told-24 c = search needs
+
+enum-told-25 : tie.Need-enum-told-25
+enum-told-25 c = search needs
+
+enum-told-26 : tie.Need-enum-told-26
+enum-told-26 c = search needs
+
+enum-told-27 : tie.Need-enum-told-27
+enum-told-27 c = search needs
+
+enum-told-28 : tie.Need-enum-told-28
+enum-told-28 c = search needs
+
+enum-told-29 : tie.Need-enum-told-29
+enum-told-29 c = search needs
+
+enum-told-30 : tie.Need-enum-told-30
+enum-told-30 c = search needs
+
+enum-told-31 : tie.Need-enum-told-31
+enum-told-31 c = search needs
+
+enum-told-32 : tie.Need-enum-told-32
+enum-told-32 c = search needs
+
+enum-told-33 : tie.Need-enum-told-33
+enum-told-33 c = search needs
+
+enum-told-34 : tie.Need-enum-told-34
+enum-told-34 c = search needs
+
+enum-told-35 : tie.Need-enum-told-35
+enum-told-35 c = search needs
+
+enum-told-36 : tie.Need-enum-told-36
+enum-told-36 c = search needs
+
+enum-told-37 : tie.Need-enum-told-37
+enum-told-37 c = search needs
+
+enum-told-38 : tie.Need-enum-told-38
+enum-told-38 c = search needs
+
+enum-told-39 : tie.Need-enum-told-39
+enum-told-39 c = search needs
+
+enum-told-40 : tie.Need-enum-told-40
+enum-told-40 c = search needs
+
+enum-told-41 : tie.Need-enum-told-41
+enum-told-41 c = search needs
+
+enum-told-42 : tie.Need-enum-told-42
+enum-told-42 c = search needs
+
+enum-told-43 : tie.Need-enum-told-43
+enum-told-43 c = search needs
+
+enum-told-44 : tie.Need-enum-told-44
+enum-told-44 c = search needs
+
+enum-told-45 : tie.Need-enum-told-45
+enum-told-45 c = search needs
+
+enum-told-46 : tie.Need-enum-told-46
+enum-told-46 c = search needs
+
+enum-told-47 : tie.Need-enum-told-47
+enum-told-47 c = search needs
+
+enum-told-48 : tie.Need-enum-told-48
+enum-told-48 c = search needs
+
+enum-told-49 : tie.Need-enum-told-49
+enum-told-49 c = search needs
+
+enum-told-50 : tie.Need-enum-told-50
+enum-told-50 c = search needs
+
+enum-told-51 : tie.Need-enum-told-51
+enum-told-51 c = search needs
+
+returns : tie.Need-returns
+returns c = simp (c .before .before .enum-told .given .1, c .enum-told2 .given .1)
+
+returns-2 : tie.Need-returns-2
+returns-2 c = simp (c .before .before .enum-told .given .1, c .enum-told3 .given .1)
+
+returns-3 : tie.Need-returns-3
+returns-3 c = simp (c .before .before .before .before .enum-told .given .1, c .before .before .enum-told4 .given .1, c .enum-told5 .given .1)
+
+returns-4 : tie.Need-returns-4
+returns-4 c = simp (c .before .before .before .before .enum-told .given .1, c .before .before .enum-told4 .given .1, c .enum-told6 .given .1)
+
+returns-5 : tie.Need-returns-5
+returns-5 c = simp (c .before .before .before .before .enum-told .given .1, c .before .before .enum-told4 .given .1, c .enum-told7 .given .1)
+
+returns-6 : tie.Need-returns-6
+returns-6 c = simp (c .before .enum-told8 .given .1, c .if1 .taken)
+
+returns-7 : tie.Need-returns-7
+returns-7 c = simp (c .before .enum-told8 .given .1, c .if1 .left)
+
+returns-8 : tie.Need-returns-8
+returns-8 c = simp (c .before .enum-told9 .given .1, c .if2 .taken)
+
+returns-9 : tie.Need-returns-9
+returns-9 c = simp (c .before .enum-told9 .given .1, c .if2 .left)
+
+returns-10 : tie.Need-returns-10
+returns-10 c = simp (c .before .enum-told10 .given .1, c .if3 .taken)
+
+returns-11 : tie.Need-returns-11
+returns-11 c = simp (c .before .enum-told10 .given .1, c .if3 .left)
+
+returns-12 : tie.Need-returns-12
+returns-12 c = simp (c .before .before .before .enum-told11 .given .1, c .before .enum-told12 .given .1, c .if4 .taken)
+
+returns-13 : tie.Need-returns-13
+returns-13 c = simp (c .before .before .before .enum-told11 .given .1, c .before .enum-told12 .given .1, c .if4 .left)
+
+returns-14 : tie.Need-returns-14
+returns-14 c = simp (c .before .before .enum-told11 .given .1, c .enum-told13 .given .1)
+
+returns-15 : tie.Need-returns-15
+returns-15 c = simp (c .before .before .before .enum-told11 .given .1, c .before .enum-told14 .given .1, c .if5 .taken)
+
+returns-16 : tie.Need-returns-16
+returns-16 c = simp (c .before .before .before .enum-told11 .given .1, c .before .enum-told14 .given .1, c .if5 .left)
+
+returns-17 : tie.Need-returns-17
+returns-17 c = simp (c .before .before .enum-told15 .given .1, c .enum-told16 .given .1)
+
+returns-18 : tie.Need-returns-18
+returns-18 c = simp (c .before .before .enum-told15 .given .1, c .enum-told17 .given .1)
+
+returns-19 : tie.Need-returns-19
+returns-19 c = simp (c .before .before .enum-told15 .given .1, c .enum-told18 .given .1)
+
+returns-20 : tie.Need-returns-20
+returns-20 c = simp (c .before .enum-told19 .given .1, c .if6 .taken)
+
+returns-21 : tie.Need-returns-21
+returns-21 c = simp (c .before .enum-told19 .given .1, c .if6 .left)
+
+returns-22 : tie.Need-returns-22
+returns-22 c = simp (c .before .before .before .enum-told20 .given .1, c .before .before .if7 .taken, c .enum-told21 .given .1)
+
+returns-23 : tie.Need-returns-23
+returns-23 c = simp (c .before .before .before .enum-told20 .given .1, c .before .before .if7 .taken, c .enum-told22 .given .1)
+
+returns-24 : tie.Need-returns-24
+returns-24 c = simp (c .before .before .before .enum-told20 .given .1, c .before .before .if7 .taken, c .enum-told23 .given .1)
+
+returns-25 : tie.Need-returns-25
+returns-25 c = simp (c .before .enum-told20 .given .1, c .if7 .left)
+
+returns-26 : tie.Need-returns-26
+returns-26 c = simp (c .before .before .enum-told24 .given .1, c .enum-told25 .given .1)
+
+returns-27 : tie.Need-returns-27
+returns-27 c = simp (c .before .before .enum-told24 .given .1, c .enum-told26 .given .1)
+
+returns-28 : tie.Need-returns-28
+returns-28 c = simp (c .before .before .enum-told24 .given .1, c .enum-told27 .given .1)
+
+returns-29 : tie.Need-returns-29
+returns-29 c = simp (c .before .before .before .enum-told28 .given .1, c .before .before .if8 .taken, c .enum-told29 .given .1)
+
+returns-30 : tie.Need-returns-30
+returns-30 c = simp (c .before .before .before .enum-told28 .given .1, c .before .before .if8 .taken, c .enum-told30 .given .1)
+
+returns-31 : tie.Need-returns-31
+returns-31 c = simp (c .before .before .before .enum-told28 .given .1, c .before .before .if8 .taken, c .enum-told31 .given .1)
+
+returns-32 : tie.Need-returns-32
+returns-32 c = simp (c .before .enum-told28 .given .1, c .if8 .left)
+
+returns-33 : tie.Need-returns-33
+returns-33 c = simp (c .before .before .before .enum-told32 .given .1, c .before .before .if9 .taken, c .enum-told33 .given .1)
+
+returns-34 : tie.Need-returns-34
+returns-34 c = simp (c .before .before .before .enum-told32 .given .1, c .before .before .if9 .taken, c .enum-told34 .given .1)
+
+returns-35 : tie.Need-returns-35
+returns-35 c = simp (c .before .before .before .enum-told32 .given .1, c .before .before .if9 .taken, c .enum-told35 .given .1)
+
+returns-36 : tie.Need-returns-36
+returns-36 c = simp (c .before .enum-told32 .given .1, c .if9 .left)
+
+returns-37 : tie.Need-returns-37
+returns-37 c = simp (c .before .before .before .enum-told36 .given .1, c .before .before .if10 .taken, c .enum-told37 .given .1)
+
+returns-38 : tie.Need-returns-38
+returns-38 c = simp (c .before .before .before .enum-told36 .given .1, c .before .before .if10 .taken, c .enum-told38 .given .1)
+
+returns-39 : tie.Need-returns-39
+returns-39 c = simp (c .before .before .before .enum-told36 .given .1, c .before .before .if10 .taken, c .enum-told39 .given .1)
+
+returns-40 : tie.Need-returns-40
+returns-40 c = simp (c .before .enum-told36 .given .1, c .if10 .left)
+
+returns-41 : tie.Need-returns-41
+returns-41 c = simp (c .before .before .before .enum-told40 .given .1, c .before .enum-told41 .given .1, c .if11 .taken)
+
+returns-42 : tie.Need-returns-42
+returns-42 c = simp (c .before .before .before .enum-told40 .given .1, c .before .enum-told41 .given .1, c .if11 .left)
+
+returns-43 : tie.Need-returns-43
+returns-43 c = simp (c .before .before .before .enum-told40 .given .1, c .before .enum-told42 .given .1, c .if12 .taken)
+
+returns-44 : tie.Need-returns-44
+returns-44 c = simp (c .before .before .before .enum-told40 .given .1, c .before .enum-told42 .given .1, c .if12 .left)
+
+returns-45 : tie.Need-returns-45
+returns-45 c = simp (c .before .before .before .enum-told40 .given .1, c .before .enum-told43 .given .1, c .if13 .taken)
+
+returns-46 : tie.Need-returns-46
+returns-46 c = simp (c .before .before .before .before .enum-told40 .given .1, c .before .before .enum-told43 .given .1, c .before .if13 .left, c .if14 .taken)
+
+returns-47 : tie.Need-returns-47
+returns-47 c = simp (c .before .before .before .before .enum-told40 .given .1, c .before .before .enum-told43 .given .1, c .before .if13 .left, c .if14 .left)
+
+returns-48 : tie.Need-returns-48
+returns-48 c = simp (c .before .before .before .enum-told44 .given .1, c .before .before .if15 .taken, c .enum-told45 .given .1)
+
+returns-49 : tie.Need-returns-49
+returns-49 c = simp (c .before .before .before .enum-told44 .given .1, c .before .before .if15 .taken, c .enum-told46 .given .1)
+
+returns-50 : tie.Need-returns-50
+returns-50 c = simp (c .before .before .before .enum-told44 .given .1, c .before .before .if15 .taken, c .enum-told47 .given .1)
+
+returns-51 : tie.Need-returns-51
+returns-51 c = simp (c .before .enum-told44 .given .1, c .if15 .left)
+
+returns-52 : tie.Need-returns-52
+returns-52 c = simp (c .before .before .before .enum-told48 .given .1, c .before .before .if16 .taken, c .enum-told49 .given .1)
+
+returns-53 : tie.Need-returns-53
+returns-53 c = simp (c .before .before .before .enum-told48 .given .1, c .before .before .if16 .taken, c .enum-told50 .given .1)
+
+returns-54 : tie.Need-returns-54
+returns-54 c = simp (c .before .before .before .enum-told48 .given .1, c .before .before .if16 .taken, c .enum-told51 .given .1)
+
+returns-55 : tie.Need-returns-55
+returns-55 c = simp (c .before .enum-told48 .given .1, c .if16 .left)
+
+pub go-on-spec : {M : Type 1} → statement M
+go-on-spec =
+    tie.close
+    (tie.spec
+    enum-told
+    enum-told-2
+    enum-told-3
+    enum-told-4
+    enum-told-5
+    enum-told-6
+    enum-told-7
+    enum-told-8
+    enum-told-9
+    enum-told-10
+    enum-told-11
+    enum-told-12
+    enum-told-13
+    enum-told-14
+    enum-told-15
+    enum-told-16
+    enum-told-17
+    enum-told-18
+    enum-told-19
+    enum-told-20
+    enum-told-21
+    enum-told-22
+    enum-told-23
+    enum-told-24
+    enum-told-25
+    enum-told-26
+    enum-told-27
+    enum-told-28
+    enum-told-29
+    enum-told-30
+    enum-told-31
+    enum-told-32
+    enum-told-33
+    enum-told-34
+    enum-told-35
+    enum-told-36
+    enum-told-37
+    enum-told-38
+    enum-told-39
+    enum-told-40
+    enum-told-41
+    enum-told-42
+    enum-told-43
+    enum-told-44
+    enum-told-45
+    enum-told-46
+    enum-told-47
+    enum-told-48
+    enum-told-49
+    enum-told-50
+    enum-told-51
+    returns
+    returns-2
+    returns-3
+    returns-4
+    returns-5
+    returns-6
+    returns-7
+    returns-8
+    returns-9
+    returns-10
+    returns-11
+    returns-12
+    returns-13
+    returns-14
+    returns-15
+    returns-16
+    returns-17
+    returns-18
+    returns-19
+    returns-20
+    returns-21
+    returns-22
+    returns-23
+    returns-24
+    returns-25
+    returns-26
+    returns-27
+    returns-28
+    returns-29
+    returns-30
+    returns-31
+    returns-32
+    returns-33
+    returns-34
+    returns-35
+    returns-36
+    returns-37
+    returns-38
+    returns-39
+    returns-40
+    returns-41
+    returns-42
+    returns-43
+    returns-44
+    returns-45
+    returns-46
+    returns-47
+    returns-48
+    returns-49
+    returns-50
+    returns-51
+    returns-52
+    returns-53
+    returns-54
+    returns-55)
