@@ -1,5 +1,5 @@
 -- What a move hands out: how many records at most, and that each names only the network's own ids. Assumes nothing.
-use Prim.Native.Nat.{ℕ, _+_, _≤_, _<_}
+use Prim.Native.Nat.{ℕ, _+_, _≤_, max}
 use native.Mathlib.Omega.{arith}
 use borrow.Author.Tests.{eq-eqb}
 use mathlib.Core.Path.{_≡_, refl, _∙_}
@@ -33,14 +33,14 @@ length-errand : (errand : Errand) (t : Transceiver) → length (map (errandRecor
 length-errand errand Absent = omega arith
 length-errand errand (Present x) = omega arith
 
--- a network has a controller, so what asks its transceiver is no more than what asks each controller
-pub length-requests : (ask : Ask) (n : Network) → 0 < length (controllersOf n) → length (requests ask n) ≤ length (controllersOf n)
+-- what asks a transceiver is one record, and what asks the controllers is one for each
+length-requests : (ask : Ask) (n : Network) → length (requests ask n) ≤ max 1 (length (controllersOf n))
 unfolding requests
-length-requests Ask.Nothing n h = omega arith
-length-requests (Ask.Controllers mode) n h = omega (arith, length-map (controllersOf n) (roundRecord (Round.Request mode)))
-length-requests (Ask.Transceiver mode) n h = omega (arith, length-errand (Errand.Mode mode) (n .transceiver))
-length-requests Ask.ClearWake n h = omega (arith, length-errand Errand.Clear (n .transceiver))
-length-requests Ask.CheckWake n h = omega (arith, length-errand Errand.Check (n .transceiver))
+length-requests Ask.Nothing n = omega arith
+length-requests (Ask.Controllers mode) n = omega (arith, length-map (controllersOf n) (roundRecord (Round.Request mode)))
+length-requests (Ask.Transceiver mode) n = omega (arith, length-errand (Errand.Mode mode) (n .transceiver))
+length-requests Ask.ClearWake n = omega (arith, length-errand Errand.Clear (n .transceiver))
+length-requests Ask.CheckWake n = omega (arith, length-errand Errand.Check (n .transceiver))
 
 length-entering : (n : Network) (pdu : PduMode) (mode : Mode) (notice : Notice) → length (entering n pdu mode notice) ≡ length (controllersOf n) + 2
 unfolding entering
@@ -57,21 +57,21 @@ length-notices handle Mode.No = omega arith
 length-notices handle Mode.Silent = omega arith
 length-notices handle Mode.Full = omega arith
 
--- a tick hands out at most c + 2 records for a network of c controllers
-pub length-move : (n : Network) (step : Step) (told : Mode) (m : Move) → 0 < length (controllersOf n) → length (moveRecords n step told m) ≤ length (controllersOf n) + 2
+-- a move hands out at most c + 2 records for a network of c controllers; one without any, which no sheet gives, counts as one that has one
+pub length-move : (n : Network) (step : Step) (told : Mode) (m : Move) → length (moveRecords n step told m) ≤ max 1 (length (controllersOf n)) + 2
 unfolding moveRecords enteringFull enteringSilent goingDown
-length-move n step told Stay h = omega arith
-length-move n step told AskAgain h = omega (arith, length-requests (asksFor step) n h)
-length-move n step told Count h = omega arith
-length-move n step told EnterFull h = omega (arith, length-entering n PduMode.Online Mode.Full Notice.Full)
-length-move n step told EnterSilent h = omega (arith, length-entering n PduMode.TxOffline Mode.Silent Notice.Silent)
-length-move n step told Pass h = omega arith
-length-move n step told Wait h = omega (arith, length-map (controllersOf n) (roundRecord (Round.Pdu PduMode.TxOffline)))
-length-move n step told GoDown h =
+length-move n step told Stay = omega arith
+length-move n step told AskAgain = omega (arith, length-requests (asksFor step) n)
+length-move n step told Count = omega arith
+length-move n step told EnterFull = omega (arith, length-entering n PduMode.Online Mode.Full Notice.Full)
+length-move n step told EnterSilent = omega (arith, length-entering n PduMode.TxOffline Mode.Silent Notice.Silent)
+length-move n step told Pass = omega arith
+length-move n step told Wait = omega (arith, length-map (controllersOf n) (roundRecord (Round.Pdu PduMode.TxOffline)))
+length-move n step told GoDown =
     let ask = asksFor (firstDown (n .partial)) in
-    simp length-append (omega (arith, length-notices (n .handle) told, length-requests ask n h))
-length-move n step told EnterNoCommunication h = omega arith
-length-move n step told (Enter next) h = omega (arith, length-requests (asksFor next) n h)
+    omega (arith, length-append (downNotices (n .handle) told) (requests ask n), length-notices (n .handle) told, length-requests ask n)
+length-move n step told EnterNoCommunication = omega arith
+length-move n step told (Enter next) = omega (arith, length-requests (asksFor next) n)
 
 -- ---- whose ids
 every-member : (l : List ℕ) → every (λ (x : ℕ). member x l) l ≡ true

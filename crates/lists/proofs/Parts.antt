@@ -19,6 +19,12 @@ module _ {A : Type 0} where
   pub take-set-more : (l : List A) (i : ℕ) (a : A) → i < length l → take (i + 1) (set l i a) ≡ take i l ++ (a ∷ [])
   take-set-more l i a h = rw add-one (take-suc-set l i a h)
 
+  -- an element of the list is the same with whatever default
+  pub getD-any : (l : List A) (i : ℕ) (d e : A) → i < length l → getD l i d ≡ getD l i e
+  getD-any [] i d e h = absurd (omega arith)
+  getD-any (x ∷ l) zero d e h = refl
+  getD-any (x ∷ l) (suc i) d e h = getD-any l i d e (omega arith)
+
   -- ---- how many there are among the first n
   pub count-below : (l : List A) (k n : ℕ) → length l ≡ k → n < k → n ≡ length (take n l)
   count-below l k n e h = sym (length-take-le n l (omega arith))

@@ -33,7 +33,7 @@ tick-few n s g =
     let c : length (controllersOf n) ≡ n .count = padded-count 4 0 (n .controllers) (n .count) (g .few-controllers) (g .blank-slots) in
     let f = g .some-controller in
     let k : 0 < length (controllersOf n) = omega arith in
-    omega (arith, length-move n (s .step) (s .told) (moveOf n s) k)
+    omega (arith, k, length-move n (s .step) (s .told) (moveOf n s))
 
 -- every record of a tick names the network's own controllers, transceiver or handle
 pub tick-own : (n : Network) (s : State) → every (ownRecord n) (tickRecords n s) ≡ true

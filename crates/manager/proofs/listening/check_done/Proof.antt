@@ -1,0 +1,57 @@
+-- `manager::listening::check_done` meets its contract. Assumes nothing.
+use mathlib.Core.Path.{_≡_, refl, sym, ap, _∙_}
+use Rattle.manager.specs.Calls.{checkDoneOf}
+use borrow.Author.Needs.{needs}
+use Rattle.manager.proofs.listening.check_done.Statement.{statement}
+use Rattle.manager.proofs.listening.check_done.Tie as tie
+
+slot-of-requires : tie.Need-slot-of-requires
+slot-of-requires c κs = search needs
+
+enum-told : tie.Need-enum-told
+enum-told c = search needs
+
+refuse-requires : tie.Need-refuse-requires
+refuse-requires c κs = search needs
+
+enum-told-2 : tie.Need-enum-told-2
+enum-told-2 c = search needs
+
+refuse-requires-2 : tie.Need-refuse-requires-2
+refuse-requires-2 c κs = search needs
+
+enum-known-at : tie.Need-enum-known-at
+enum-known-at c = search needs
+
+reported-at-requires : tie.Need-reported-at-requires
+reported-at-requires c κs = search needs
+
+returns : tie.Need-returns
+unfolding checkDoneOf
+returns c =
+    simp (sym (c .before .before .before .slot-of .ensures) ∙ c .before .enum-told .given .1, c .refuse .ensures)
+
+returns-2 : tie.Need-returns-2
+unfolding checkDoneOf
+returns-2 c =
+    simp (sym (c .before .before .before .slot-of .ensures) ∙ c .before .enum-told2 .given .1, c .refuse2 .ensures)
+
+returns-3 : tie.Need-returns-3
+unfolding checkDoneOf
+returns-3 c =
+    simp (sym (c .before .before .before .before .slot-of .ensures) ∙ c .before .before .at .given .1, c .reported-at .ensures)
+
+pub check-done-spec : {M : Type 1} → statement M
+check-done-spec =
+    tie.close
+    (tie.spec
+    slot-of-requires
+    enum-told
+    refuse-requires
+    enum-told-2
+    refuse-requires-2
+    enum-known-at
+    reported-at-requires
+    returns
+    returns-2
+    returns-3)

@@ -1,0 +1,3 @@
+pub mod Manager
+pub mod Calls
+pub mod Careful

@@ -1,0 +1,175 @@
+// A new manager, its sheet and its start.
+use crate::Answer;
+use crate::Manager;
+use crate::Outcome;
+use crate::Stage;
+use network::State;
+use records::Mode;
+use settings::Network;
+use settings::Settings;
+use sheet::Reading;
+use sheet::Written;
+use steps::Step;
+ghost use mathlib.Core.Path.{_≡_};
+ghost use Rattle.manager.specs.Manager.{blankState, settingsOf, networksOf, withStates, each};
+ghost use Rattle.manager.specs.Calls.{newManager, loaded, afterReading, readOf, afterWriting, writeOf, writeBuffer, startOf};
+ghost use Rattle.network.specs.State.{started};
+ghost use Rattle.sheet.specs.Writing.{written, bufferAfter};
+
+pub fn blank_state() -> State
+    ensures { λ r. ⌜ r ≡ blankState ⌝ }
+{
+    let answers = State::no_answers();
+    State {
+        step: Step::NoCommunication,
+        wanted: Mode::No,
+        told: Mode::No,
+        count: 0,
+        asked: false,
+        answers,
+        reported: false,
+    }
+}
+
+// A manager with no sheet.
+pub fn new() -> Manager
+    ensures { λ r. ⌜ r ≡ newManager ⌝ }
+{
+    let network = Network::blank();
+    let state = blank_state();
+    Manager {
+        stage: Stage::Empty,
+        count: 0,
+        networks: [network; Settings::MOST_NETWORKS],
+        states: [state; Settings::MOST_NETWORKS],
+    }
+}
+
+fn load(settings: Settings) -> Manager
+    ensures { λ r. ⌜ r ≡ loaded settings ⌝ }
+{
+    let networks = settings.networks;
+    let state = blank_state();
+    Manager {
+        stage: Stage::Loaded,
+        count: settings.count,
+        networks,
+        states: [state; Settings::MOST_NETWORKS],
+    }
+}
+
+// What a reading of a sheet gives.
+fn after_reading(manager: Manager, reading: Reading) -> Outcome
+    ensures { λ r. ⌜ r ≡ afterReading manager reading (reading .answer) ⌝ }
+{
+    let answer = reading.answer;
+    let settings = reading.settings;
+    match answer {
+        sheet::Answer::Accepted => Outcome {
+            answer: Answer::Accepted,
+            manager: load(settings),
+            count: settings.count as usize,
+            mode: 0,
+            place: reading.place,
+        },
+        sheet::Answer::Refused(fault) => Outcome {
+            answer: Answer::Sheet(fault),
+            manager,
+            count: 0,
+            mode: 0,
+            place: reading.place,
+        },
+    }
+}
+
+// Reads a sheet. Reading again before the start replaces it; a refused reading keeps the old one.
+pub fn read(manager: Manager, bytes: &[u8]) -> Outcome
+    ensures { λ r. ⌜ r ≡ readOf manager (now (bytes .entry)) ⌝ }
+{
+    let stage = manager.stage;
+    match stage {
+        Stage::Empty => after_reading(manager, sheet::read(bytes)),
+        Stage::Loaded => after_reading(manager, sheet::read(bytes)),
+        Stage::Started => Outcome::refuse(manager, Answer::Running),
+    }
+}
+
+fn after_writing(manager: Manager, answer: Written) -> Outcome
+    ensures { λ r. ⌜ r ≡ afterWriting manager answer ⌝ }
+{
+    match answer {
+        Written::Short => Outcome::refuse(manager, Answer::TooShort),
+        Written::Length(length) => Outcome {
+            answer: Answer::Accepted,
+            manager,
+            count: length,
+            mode: 0,
+            place: 0,
+        },
+    }
+}
+
+fn write_sheet(manager: Manager, buffer: &mut [u8]) -> Outcome
+    ensures { λ r. ⌜ (r ≡ afterWriting manager (written (settingsOf manager) (now (buffer .entry)))) × (now (buffer .exit) ≡ bufferAfter (settingsOf manager) (now (buffer .entry))) ⌝ }
+{
+    let networks = manager.networks;
+    let settings = Settings {
+        networks,
+        count: manager.count,
+    };
+    let answer = sheet::write(settings, buffer);
+    after_writing(manager, answer)
+}
+
+// Writes the sheet into a lent buffer, before and after the start.
+pub fn write(manager: Manager, buffer: &mut [u8]) -> Outcome
+    ensures { λ r. ⌜ (r ≡ writeOf manager (now (buffer .entry))) × (now (buffer .exit) ≡ writeBuffer manager (now (buffer .entry))) ⌝ }
+{
+    let stage = manager.stage;
+    match stage {
+        Stage::Empty => Outcome::refuse(manager, Answer::NotReady),
+        Stage::Loaded => write_sheet(manager, buffer),
+        Stage::Started => write_sheet(manager, buffer),
+    }
+}
+
+// Every network in its first down step.
+fn start_networks(manager: Manager) -> Manager
+    ensures { λ r. ⌜ r ≡ withStates manager Stage.Started (each (λ n s. started n) (networksOf manager) (manager .states)) ⌝ }
+{
+    let count = manager.count;
+    let networks = manager.networks;
+    let mut states = manager.states;
+    let mut i: u8 = 0;
+    while (i as usize) < Settings::MOST_NETWORKS {
+        if count <= i {
+            return Manager {
+                stage: Stage::Started,
+                count,
+                networks,
+                states,
+            };
+        }
+        let network = networks[i as usize];
+        states[i as usize] = State::start(network);
+        i += 1;
+    }
+    Manager {
+        stage: Stage::Started,
+        count,
+        networks,
+        states,
+    }
+}
+
+// Starts the manager.
+pub fn start(manager: Manager) -> Outcome
+    ensures { λ r. ⌜ r ≡ startOf manager ⌝ }
+{
+    let stage = manager.stage;
+    match stage {
+        Stage::Empty => Outcome::refuse(manager, Answer::NotReady),
+        Stage::Loaded => Outcome::accept(start_networks(manager)),
+        Stage::Started => Outcome::refuse(manager, Answer::Running),
+    }
+}

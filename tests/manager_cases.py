@@ -1,0 +1,371 @@
+#!/usr/bin/env python3
+"""Writes the input and the expected output of the program `manager_cases`: calls of the manager, by the model of document 01.
+
+The cases stand below as lists of calls: a name, its arguments, and for a call with a lent buffer the number of bytes lent.
+Without arguments it writes `crates/manager_cases/stdin` and `stdout`; with --check it compares, and exits 1 if anything differs.
+"""
+
+import collections
+import pathlib
+import sys
+
+import model
+
+ROOT = pathlib.Path(__file__).resolve().parent.parent
+FOLDER = ROOT / "crates" / "manager_cases"
+HEADER = "expected output made by: python3 tests/manager_cases.py"
+FILL = 0xEE
+RECORDS_ROOM = 144
+SHEET_ROOM = 336
+AFTER = 2
+# An unknown call ends the program: the one after it gives no line.
+ENDING = bytes([0x0C, 0x00])
+
+CODES = {
+    "new": 0x00,
+    "read": 0x01,
+    "start": 0x02,
+    "write": 0x03,
+    "request": 0x04,
+    "bus-off": 0x05,
+    "answer": 0x06,
+    "transceiver": 0x07,
+    "clear": 0x08,
+    "check": 0x09,
+    "tick": 0x0A,
+    "poll": 0x0B,
+}
+
+# ---------------------------------------------------------------------------
+# Sheets
+# ---------------------------------------------------------------------------
+
+
+def network(handle, controllers, transceiver=None, times=(2, 5, 3), threshold=1, partial=0):
+    """The bytes of one network; the times are short delay, long delay and ensure time."""
+    return model.write_network(model.Settings(handle, list(controllers), transceiver, *times, threshold, partial))
+
+
+# The sheet of document 01's whole case and of its bench cases.
+SHEET = bytes.fromhex("01000107 02000103 040006000200050003 05000101 06000100")
+# A network with a transceiver, and one with partial networking too.
+WITH_TRANSCEIVER = network(9, [4], 6, times=(1, 2, 1), threshold=0)
+PARTIAL = network(20, [30, 1], 5, times=(1, 3, 2), threshold=0, partial=1)
+# Two networks of two controllers each.
+PAIR = network(1, [10, 11], times=(1, 4, 2), threshold=0) + network(2, [12, 0], 3, times=(3, 1, 2), threshold=254)
+# Two networks, the first with partial networking: both kinds of first down step.
+MIXED = PARTIAL + SHEET
+# The largest sheet: 8 networks of 4 controllers each, with a transceiver.
+LARGEST = b"".join(
+    network(255 - n, range(4 * n, 4 * n + 4), n, times=(65535, 1, 256), threshold=254, partial=n % 2) for n in range(8)
+)
+
+# ---------------------------------------------------------------------------
+# Runs of calls
+# ---------------------------------------------------------------------------
+
+TICK = ("tick", RECORDS_ROOM)
+
+
+def answers(controllers, mode, ok=1):
+    """The same answer of each controller."""
+    return [("answer", controller, mode, ok) for controller in controllers]
+
+
+def ticks(number):
+    """So many ticks with room for all records."""
+    return [TICK] * number
+
+
+def begun(sheet):
+    """A new manager with this sheet, started."""
+    return [("new",), ("read", sheet), ("start",)]
+
+
+# From the start of the bench cases' sheet to step 0.
+DOWN = [TICK, *answers([3], 0), TICK, *answers([3], 2), TICK]
+# From step 0 to full, told on the last tick.
+UP = [("request", 7, 2), TICK, *answers([3], 0), TICK, *answers([3], 1), TICK]
+# From full being checked to all-clear.
+CHECKED = ticks(3)
+# From a bus-off to waiting with TX offline.
+RESTARTED = [TICK, *answers([3], 1), TICK]
+BUS_OFF = ("bus-off", 3, RECORDS_ROOM)
+
+# ---------------------------------------------------------------------------
+# Cases
+# ---------------------------------------------------------------------------
+
+WHOLE_CASE = [
+    # The whole case of document 01.
+    [*begun(SHEET), *DOWN, *UP, BUS_OFF, *RESTARTED, TICK, TICK, ("poll", 7)],
+]
+
+BENCH_CASES = [
+    # B9: one bus-off in step 5, full on the fourth tick.
+    [*begun(SHEET), *DOWN, *UP, *CHECKED, BUS_OFF, *RESTARTED, TICK, TICK, ("poll", 7)],
+    # B9: a second bus-off in step 7, full on the seventh tick after it, passed on the third after that.
+    [
+        *begun(SHEET), *DOWN, *UP, *CHECKED, BUS_OFF, *RESTARTED, BUS_OFF, *RESTARTED, *ticks(4), ("poll", 7), TICK,
+        ("poll", 7), *CHECKED,
+    ],
+    # B10: a started answer between bus-off and next tick. It is no answer to what the tick then asks.
+    [*begun(SHEET), *DOWN, *UP, BUS_OFF, *answers([3], 1), TICK, TICK, *answers([3], 1), TICK],
+    # B11: silent asked for in step 0, and in steps 2 and 3; then in step 4.
+    [
+        *begun(SHEET), *DOWN, ("request", 7, 1), ("request", 7, 2), TICK, ("request", 7, 1), *answers([3], 0), TICK,
+        ("request", 7, 1), *answers([3], 1), TICK, ("request", 7, 1), TICK, ("poll", 7), ("request", 7, 1), TICK,
+    ],
+    # B12: a tick with 8 bytes and with 9; a refused one is no tick. After full is told, passed comes on the third.
+    [
+        *begun(SHEET), ("tick", 8), ("tick", 9), *answers([3], 0), ("tick", 9), *answers([3], 2), ("tick", 9), *UP,
+        ("tick", 8), ("tick", 9), ("tick", 9), ("tick", 8), ("tick", 9), ("tick", 9),
+    ],
+]
+
+# Every call but reading, with arguments that no network has and no range allows.
+WRONG_CALLS = [
+    ("tick", 0), ("bus-off", 99, 0), ("request", 99, 3), ("answer", 99, 3, 2), ("transceiver", 99, 3), ("clear", 99),
+    ("check", 99), ("poll", 99),
+]
+
+REFUSALS = [
+    # Before reading every call but reading is refused with 01, also where other refusals would apply.
+    [("new",), ("start",), ("write", 0), ("write", SHEET_ROOM), *WRONG_CALLS],
+    # Before the start too; start and writing then have their sheet. Writing needs 25 bytes.
+    [("new",), ("read", SHEET), *WRONG_CALLS, ("write", 0), ("write", 24), ("write", 25), ("write", SHEET_ROOM)],
+    # After the start: a second start, reading (of a good sheet and of none), writing.
+    [
+        *begun(SHEET), ("start",), ("read", SHEET), ("read", b""), ("read", b"\x99"), ("write", 24), ("write", 25),
+        ("write", 0xFFFF),
+    ],
+    # A tick with 8 and 9 bytes, with none and with all.
+    [*begun(SHEET), ("tick", 0), ("tick", 8), ("tick", 9), ("tick", 255)],
+    # Bus-off: 20 before 04 before 22; in step 3 it needs 9 bytes too, and in step 4.
+    [
+        *begun(SHEET), ("bus-off", 99, 8), ("bus-off", 3, 8), ("bus-off", 99, 9), ("bus-off", 7, 9), ("bus-off", 3, 9),
+        *DOWN, ("bus-off", 3, 9), ("request", 7, 2), TICK, ("bus-off", 3, 9), *answers([3], 0), TICK,
+        ("bus-off", 3, 8), ("bus-off", 3, 9), *answers([3], 1), TICK, *answers([3], 1), TICK, ("bus-off", 3, 8),
+        ("bus-off", 3, 9), ("bus-off", 3, 255),
+    ],
+    # Request: 03 before 21 before 08; an unknown handle with a good mode; the highest mode and the lowest.
+    [
+        *begun(SHEET), ("request", 3, 3), ("request", 3, 1), ("request", 3, 2), ("request", 7, 3), ("request", 7, 255),
+        ("request", 7, 1), ("request", 7, 2), ("request", 7, 0),
+    ],
+    # Controller answer: 04 before 21 before 22; not asked, another mode, and then the asked one.
+    [
+        *begun(SHEET), ("answer", 7, 3, 2), ("answer", 7, 0, 1), ("answer", 3, 3, 1), ("answer", 3, 0, 2),
+        ("answer", 3, 255, 255), ("answer", 3, 0, 1), TICK, ("answer", 3, 1, 1), ("answer", 3, 2, 0), ("answer", 3, 0, 2),
+        ("answer", 3, 0, 0), TICK, ("answer", 3, 0, 1), TICK,
+    ],
+    # Transceiver mode: 05 before 21 before 22; 2 is in range and never asked for.
+    [
+        *begun(WITH_TRANSCEIVER), ("transceiver", 4, 3), ("transceiver", 4, 1), ("transceiver", 6, 3),
+        ("transceiver", 6, 1), TICK, *answers([4], 0), TICK, *answers([4], 2), TICK, ("transceiver", 6, 0),
+        ("transceiver", 6, 2), ("transceiver", 6, 3), ("transceiver", 6, 1), TICK, ("poll", 9), ("transceiver", 6, 1),
+    ],
+    # Clear done and check done: 05 before 22; without partial networking no step asks for them.
+    [
+        *begun(WITH_TRANSCEIVER), ("clear", 4), ("check", 4), ("clear", 6), ("check", 6), TICK, ("clear", 6),
+        ("check", 6),
+    ],
+    # Without a transceiver no transceiver is known, not even 0.
+    [*begun(SHEET), ("transceiver", 0, 0), ("clear", 0), ("check", 0)],
+    # Poll: an unknown handle; a controller's id is none.
+    [*begun(SHEET), ("poll", 3), ("poll", 255), ("poll", 7)],
+    # The sheet's own refusals: no network; cut; unknown tag; wrong length; wrong order; used before;
+    # out of range; partial networking without transceiver; a ninth network. Then there is no sheet still.
+    [
+        ("new",), ("read", b""), ("read", SHEET[:24]), ("read", SHEET[:21]), ("read", SHEET[:23]), ("read", b"\x07" + SHEET),
+        ("read", b"\x01\x00\x02" + SHEET[3:]), ("read", SHEET[4:]), ("read", SHEET[:8] + SHEET[4:]),
+        ("read", SHEET[:11] + b"\x00\x00" + SHEET[13:]), ("read", SHEET[:20] + b"\xff" + SHEET[21:]),
+        ("read", SHEET[:24] + b"\x01"), ("read", SHEET + SHEET), ("read", LARGEST + network(0, [0])),
+        ("start",), ("write", SHEET_ROOM),
+    ],
+]
+
+PARTIAL_NETWORKING = [
+    # A network with transceiver and partial networking: down from the start, through 9 to 13.
+    [
+        *begun(PARTIAL), ("clear", 5), TICK, ("check", 5), ("poll", 20), TICK, ("clear", 5), TICK, *answers([30, 1], 0),
+        TICK, ("transceiver", 5, 0), ("transceiver", 5, 1), TICK, *answers([30], 2), TICK, *answers([1], 2), TICK,
+        ("clear", 5), ("check", 5), TICK, ("check", 5), ("poll", 20), TICK,
+        # Coming up; a request answered by one controller only is sent again to both.
+        ("request", 20, 2), TICK, ("transceiver", 5, 1), TICK, ("transceiver", 5, 0), TICK, *answers([1], 0), TICK,
+        *answers([30], 0), TICK, *answers([30, 1], 1), ("bus-off", 1, 9), ("answer", 30, 1, 1), TICK,
+        *answers([30, 1], 1), TICK, ("poll", 20), TICK, TICK, TICK,
+        # Going down while full; one controller refuses sleep.
+        ("request", 20, 0), ("poll", 20), TICK, ("poll", 20), ("bus-off", 30, 9), ("request", 20, 1), ("clear", 5), TICK,
+        *answers([30, 1], 0), TICK, ("transceiver", 5, 1), TICK, ("answer", 30, 2, 1), ("answer", 1, 2, 0), TICK,
+        ("clear", 5), TICK, ("check", 5), TICK, ("poll", 20), ("check", 5), ("clear", 5), TICK, *answers([30, 1], 0), TICK,
+        ("transceiver", 5, 1), TICK,
+        # A refusal that a later answer replaces; then both have answered well.
+        ("answer", 30, 2, 0), ("answer", 30, 2, 1), ("answer", 1, 2, 1), TICK, ("check", 5), TICK, ("poll", 20), TICK,
+    ],
+    # A network with a transceiver alone: 10, 12, 11, 0; up by 1; down while coming up; silent and back keep the count.
+    [
+        *begun(WITH_TRANSCEIVER), TICK, *answers([4], 0), TICK, *answers([4], 2), TICK, ("transceiver", 6, 1), TICK,
+        ("request", 9, 2), TICK, ("request", 9, 0), TICK, *answers([4], 0), TICK, *answers([4], 2), TICK,
+        ("transceiver", 6, 1), ("request", 9, 2), TICK, TICK, ("transceiver", 6, 0), TICK, *answers([4], 0), TICK,
+        *answers([4], 1), TICK, ("bus-off", 4, 9), TICK, *answers([4], 1), TICK, ("request", 9, 1), TICK, TICK,
+        ("poll", 9), ("bus-off", 4, 9), ("request", 9, 2), TICK, *answers([4], 1), TICK, TICK, TICK, TICK, ("poll", 9),
+    ],
+]
+
+TWO_NETWORKS = [
+    # Two networks of two controllers each; both come up, then the second has a bus-off while the first stays full.
+    [
+        *begun(PAIR), ("tick", 23), ("tick", 24), *answers([10, 11, 12, 0], 0), TICK, *answers([10, 11, 12, 0], 2), TICK,
+        ("request", 1, 2), ("request", 2, 2), ("transceiver", 3, 1), TICK, *answers([10, 11], 0), TICK,
+        *answers([11, 10], 1), ("transceiver", 3, 0), TICK, *answers([12, 0], 0), TICK, *answers([12, 0], 1), TICK,
+        ("poll", 1), ("poll", 2), TICK, TICK, ("bus-off", 0, 9), ("poll", 1), ("poll", 2), TICK, *answers([0, 12], 1), TICK,
+        TICK, TICK, ("poll", 2), TICK, ("poll", 1), ("poll", 2), TICK, TICK,
+        # The first has a bus-off: its count is above its threshold, so it waits the long delay. The second goes down.
+        ("bus-off", 11, 9), ("request", 2, 0), TICK, ("poll", 1), ("poll", 2), *answers([10, 11], 1),
+        *answers([12, 0], 0), TICK, *answers([12, 0], 2), TICK, ("transceiver", 3, 1), TICK, TICK, TICK, ("poll", 1),
+        ("poll", 2), ("write", 328),
+    ],
+    # A refused reading keeps the old sheet; reading again before the start replaces it.
+    [
+        ("new",), ("read", PAIR), ("read", PAIR[:-1]), ("write", SHEET_ROOM), ("read", MIXED), ("write", SHEET_ROOM),
+        ("read", b""), ("write", SHEET_ROOM), ("start",), ("read", PAIR), ("write", SHEET_ROOM), ("tick", 20), ("tick", 21),
+        ("poll", 1), ("poll", 7), ("poll", 20), ("clear", 5), ("answer", 3, 0, 1), TICK, ("answer", 10, 0, 1),
+    ],
+    # The largest sheet: 328 bytes, and a tick that needs the whole buffer.
+    [
+        ("new",), ("read", LARGEST), ("write", 327), ("write", 328), ("write", SHEET_ROOM), ("start",), ("tick", 143), TICK,
+        ("clear", 1), ("transceiver", 7, 1), ("answer", 31, 0, 1), ("answer", 0, 0, 1), ("poll", 255), ("poll", 248), TICK,
+    ],
+    # A new manager has nothing of the one before.
+    [("new",), ("poll", 255), ("write", SHEET_ROOM)],
+]
+
+CALLS = [
+    call
+    for cases in (WHOLE_CASE, BENCH_CASES, REFUSALS, PARTIAL_NETWORKING, TWO_NETWORKS)
+    for case in cases
+    for call in case
+]
+
+# ---------------------------------------------------------------------------
+# The two files
+# ---------------------------------------------------------------------------
+
+
+def call_bytes(call):
+    """A call as the program reads it."""
+    name, *arguments = call
+    if name == "read":
+        return bytes([CODES[name]]) + len(arguments[0]).to_bytes(2, "big") + arguments[0]
+    if name == "write":
+        return bytes([CODES[name]]) + arguments[0].to_bytes(2, "big")
+    return bytes([CODES[name], *arguments])
+
+
+def outcome_of(manager, call):
+    """What a call gives, by the model."""
+    name, *arguments = call
+    if name in ("write", "bus-off", "tick"):
+        *arguments, length = arguments
+        arguments.append(min(length, room_of(name)))
+    calls = {
+        "read": manager.read,
+        "start": manager.start,
+        "write": manager.write,
+        "request": manager.request,
+        "bus-off": manager.bus_off,
+        "answer": manager.controller_answer,
+        "transceiver": manager.transceiver_mode,
+        "clear": manager.clear_done,
+        "check": manager.check_done,
+        "tick": manager.tick,
+        "poll": manager.poll,
+    }
+    return calls[name](*arguments)
+
+
+def room_of(name):
+    """The size of the buffer of which a part is lent; 0 for a call that takes none."""
+    return {"write": SHEET_ROOM, "bus-off": RECORDS_ROOM, "tick": RECORDS_ROOM}.get(name, 0)
+
+
+def shown_buffer(name, outcome):
+    """The front of the buffer after the call: what was written and some bytes that must stay."""
+    written = outcome.count if name == "write" else model.Limit.RECORD_BYTES * outcome.count
+    after = model.lent_bytes_after(bytes([FILL]) * room_of(name), outcome)
+    return after[:written + AFTER].hex()
+
+
+def call_line(number, call, outcome):
+    """The line of a call."""
+    name = call[0]
+    words = [number, name, outcome.answer, outcome.count, outcome.mode, outcome.place]
+    if room_of(name):
+        words.append(shown_buffer(name, outcome))
+    return " ".join(str(word) for word in words)
+
+
+def outcomes():
+    """What each call gives; `new` gives a new manager and nothing else."""
+    manager = model.Manager.new()
+    for call in CALLS:
+        if call == ("new",):
+            manager = model.Manager.new()
+            yield model.Outcome(model.ACCEPTED)
+        else:
+            yield outcome_of(manager, call)
+
+
+def expected_input():
+    """The calls as bytes, and the ending."""
+    return b"".join(call_bytes(call) for call in CALLS) + ENDING
+
+
+def expected_output():
+    """The whole output, as bytes."""
+    lines = [call_line(number, *pair) for number, pair in enumerate(zip(CALLS, outcomes()), 1)]
+    return "".join(line + "\n" for line in [HEADER, *lines]).encode("ascii")
+
+
+def difference(name, wanted):
+    """Says that a stored file differs, and in which of its lines first; nothing where it doesn't."""
+    path = FOLDER / name
+    if not path.exists():
+        return f"manager_cases: {name} is missing"
+    stored = path.read_bytes()
+    if stored == wanted:
+        return ""
+    if name == "stdin":
+        return f"manager_cases: {name} differs from the cases"
+    pairs = enumerate(zip(stored.splitlines(), wanted.splitlines()), 1)
+    lines = [number for number, pair in pairs if pair[0] != pair[1]]
+    return f"manager_cases: {name} differs from the model in lines {lines or 'after the last'}"
+
+
+def check():
+    """Compares the stored files with the cases and the model."""
+    differing = [text for text in (difference("stdin", expected_input()), difference("stdout", expected_output())) if text]
+    if differing:
+        print("\n".join(differing))
+        return 1
+    times = collections.Counter(outcome.answer for outcome in outcomes())
+    answer_words = ", ".join(f"{answer:02X}: {times[answer]}" for answer in sorted(times))
+    print(f"manager_cases: {len(CALLS)} calls agree; answers by number: {answer_words}")
+    return 0
+
+
+def main(arguments):
+    if arguments == ["--check"]:
+        return check()
+    if arguments:
+        print(__doc__)
+        return 2
+    FOLDER.mkdir(parents=True, exist_ok=True)
+    (FOLDER / "stdin").write_bytes(expected_input())
+    (FOLDER / "stdout").write_bytes(expected_output())
+    return 0
+
+
+if __name__ == "__main__":
+    sys.exit(main(sys.argv[1:]))
