@@ -1,7 +1,6 @@
 // Writes all 1,080 decisions of the tick: a line for each step, with the step and its 72 next steps, each choice in this order: wanted no,
 // silent, full; done, not done; a refusal present, absent; the timer reached, not; no transceiver, a transceiver, a transceiver with PN.
 // The last varies fastest.
-use libc::STDOUT_FILENO;
 use records::Mode;
 use steps::Outfit;
 use steps::Step;
@@ -70,32 +69,23 @@ fn next_step(step: Step, situation: u8) -> Step {
     steps::step_after(decided, step, is_partial(outfit))
 }
 
-fn put_text(text: &[u8]) {
-    io::write_all(STDOUT_FILENO, text);
-}
-
-fn put_number(number: u8) {
-    io::print_decimal(STDOUT_FILENO, number as u64);
-}
-
 fn put_step(step: Step) {
-    put_text(b" ");
-    put_number(step.number());
+    printing::put_byte(step.number());
 }
 
 fn put_line(number: u8) {
     let step = step_of(number);
-    put_number(number);
+    printing::put_digits(number as u64);
     let mut situation: u8 = 0;
     while situation < SITUATIONS {
         put_step(next_step(step, situation));
         situation += 1;
     }
-    put_text(b"\n");
+    printing::end_line();
 }
 
 fn main() {
-    put_text(b"expected output made by: python3 tests/decisions.py\n");
+    printing::put_text(b"expected output made by: python3 tests/decisions.py\n");
     let mut number: u8 = 0;
     while number < STEPS {
         put_line(number);

@@ -1,3 +1,2 @@
 pub mod Manager
 pub mod Calls
-pub mod Careful

@@ -1,16 +1,16 @@
 // The state manager of 1 to 8 networks: its public calls. Each takes the manager and gives back the next one, beside its answer.
+mod bus_offs;
 mod finding;
-mod handing_out;
 mod listening;
 mod requesting;
 mod room;
 mod setting_up;
+mod ticking;
 
 ghost use mathlib.Core.Path.{_≡_};
 ghost use Rattle.manager.specs.Manager.{answerNumber, refused, accepted, networkAt, stateAt, withState};
+pub use bus_offs::bus_off;
 use entries::Fault;
-pub use handing_out::bus_off;
-pub use handing_out::tick;
 pub use listening::check_done;
 pub use listening::clear_done;
 pub use listening::controller_answer;
@@ -24,6 +24,7 @@ pub use setting_up::start;
 pub use setting_up::write;
 use settings::Network;
 use settings::Settings;
+pub use ticking::tick;
 
 // Whether the manager has a sheet, and whether it was started.
 pub enum Stage {

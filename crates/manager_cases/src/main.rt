@@ -1,7 +1,6 @@
 // Runs stored calls of the manager and writes what each gives: answer, count, mode, place, and the front of its lent buffer.
 // Input: for each call one byte that says which, and its arguments. An unknown or cut call ends the program.
 use libc::STDIN_FILENO;
-use libc::STDOUT_FILENO;
 use manager::Manager;
 use manager::Outcome;
 
@@ -49,69 +48,28 @@ const FILL: u8 = 0xee;
 const AFTER: usize = 2;
 // The bytes of a record.
 const RECORD: usize = 3;
-// The hexadecimal digits of a byte.
-const DIGITS: usize = 2;
-
 // ---- lines
-
-fn put_text(text: &[u8]) {
-    io::write_all(STDOUT_FILENO, text);
-}
-
-// A blank and a number.
-fn put_number(number: u64) {
-    put_text(b" ");
-    io::print_decimal(STDOUT_FILENO, number);
-}
-
-fn put_byte(number: u8) {
-    put_number(number as u64);
-}
-
-fn put_size(number: usize) {
-    put_number(number as u64);
-}
-
-fn put_hex_byte(byte: u8) {
-    io::print_hex(STDOUT_FILENO, byte as u64, DIGITS);
-}
-
-// The first bytes in hexadecimal, at most so many.
-fn put_hex(bytes: &[u8], most: usize) {
-    let mut i: usize = 0;
-    while i < bytes.len() {
-        if most <= i {
-            return;
-        }
-        put_hex_byte(bytes[i]);
-        i += 1;
-    }
-}
 
 // The number of a call and its name, at the front of a line.
 fn begin_line(number: u64, name: &[u8]) {
-    io::print_decimal(STDOUT_FILENO, number);
-    put_text(b" ");
-    put_text(name);
+    printing::put_digits(number);
+    printing::put_text(b" ");
+    printing::put_text(name);
 }
 
 fn put_outcome(outcome: Outcome) {
     let answer = outcome.answer;
-    put_byte(answer.number());
-    put_size(outcome.count);
-    put_byte(outcome.mode);
-    put_size(outcome.place);
-}
-
-fn end_line() {
-    put_text(b"\n");
+    printing::put_byte(answer.number());
+    printing::put_size(outcome.count);
+    printing::put_byte(outcome.mode);
+    printing::put_size(outcome.place);
 }
 
 // The line of a call without a lent buffer, and the manager after it.
 fn tell(number: u64, name: &[u8], outcome: Outcome) -> Manager {
     begin_line(number, name);
     put_outcome(outcome);
-    end_line();
+    printing::end_line();
     outcome.manager
 }
 
@@ -119,9 +77,9 @@ fn tell(number: u64, name: &[u8], outcome: Outcome) -> Manager {
 fn tell_lent(number: u64, name: &[u8], outcome: Outcome, buffer: &[u8], shown: usize) -> Manager {
     begin_line(number, name);
     put_outcome(outcome);
-    put_text(b" ");
-    put_hex(buffer, shown);
-    end_line();
+    printing::put_text(b" ");
+    printing::put_hex(buffer, shown);
+    printing::end_line();
     outcome.manager
 }
 
@@ -341,6 +299,6 @@ fn run_calls(input: &[u8]) {
 fn main() {
     let mut input = io::large_buffer();
     let count = io::read_full(STDIN_FILENO, &mut input);
-    put_text(b"expected output made by: python3 tests/manager_cases.py\n");
+    printing::put_text(b"expected output made by: python3 tests/manager_cases.py\n");
     run_calls(&input[..count]);
 }

@@ -3,5 +3,3 @@ pub mod Rules
 pub mod Moving
 pub mod Answers
 pub mod BusOff
-pub mod Kept
-pub mod Examples

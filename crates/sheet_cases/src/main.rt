@@ -2,7 +2,6 @@
 // Input: for each sheet two bytes length, high byte first, and the sheet.
 use fields::Field;
 use libc::STDIN_FILENO;
-use libc::STDOUT_FILENO;
 use settings::Network;
 use settings::Settings;
 use settings::Transceiver;
@@ -17,99 +16,50 @@ const FILL: u8 = 0xee;
 const AFTER: usize = 2;
 // How many bytes of a buffer that was too short are shown.
 const SHOWN: usize = 4;
-// The hexadecimal digits of a byte.
-const DIGITS: usize = 2;
-
-fn put_text(text: &[u8]) {
-    io::write_all(STDOUT_FILENO, text);
-}
-
-// A blank and a number.
-fn put_number(number: u64) {
-    put_text(b" ");
-    io::print_decimal(STDOUT_FILENO, number);
-}
-
-fn put_byte(number: u8) {
-    put_number(number as u64);
-}
-
-fn put_wide(number: u16) {
-    put_number(number as u64);
-}
-
-fn put_size(number: usize) {
-    put_number(number as u64);
-}
-
-fn put_hex_byte(byte: u8) {
-    io::print_hex(STDOUT_FILENO, byte as u64, DIGITS);
-}
-
-// The first bytes in hexadecimal, at most so many.
-fn put_hex(bytes: &[u8], most: usize) {
-    let mut i: usize = 0;
-    while i < bytes.len() {
-        if most <= i {
-            return;
-        }
-        put_hex_byte(bytes[i]);
-        i += 1;
-    }
-}
-
-// The number of a case, at the front of a line.
-fn begin_line(case: u64) {
-    io::print_decimal(STDOUT_FILENO, case);
-}
-
-fn end_line() {
-    put_text(b"\n");
-}
 
 fn put_controllers(network: Network) {
     let count = network.count as usize;
     let ids = network.controllers;
-    put_byte(ids[0]);
+    printing::put_byte(ids[0]);
     let mut i: usize = 1;
     while i < Network::MOST_CONTROLLERS {
         if count <= i {
             return;
         }
-        put_text(b",");
-        io::print_decimal(STDOUT_FILENO, ids[i] as u64);
+        printing::put_text(b",");
+        printing::put_digits(ids[i] as u64);
         i += 1;
     }
 }
 
 fn put_transceiver(transceiver: Transceiver) {
     match transceiver {
-        Transceiver::Absent => put_text(b" -"),
-        Transceiver::Present(id) => put_byte(id),
+        Transceiver::Absent => printing::put_text(b" -"),
+        Transceiver::Present(id) => printing::put_byte(id),
     }
 }
 
 fn put_partial(partial: bool) {
     if partial {
-        put_text(b" 1");
+        printing::put_text(b" 1");
     } else {
-        put_text(b" 0");
+        printing::put_text(b" 0");
     }
 }
 
 fn put_network(case: u64, network: Network) {
-    begin_line(case);
-    put_text(b" net");
-    put_byte(network.handle);
+    printing::put_digits(case);
+    printing::put_text(b" net");
+    printing::put_byte(network.handle);
     put_controllers(network);
     let transceiver = network.transceiver;
     put_transceiver(transceiver);
-    put_wide(network.short);
-    put_wide(network.long);
-    put_wide(network.ensure);
-    put_byte(network.threshold);
+    printing::put_wide(network.short);
+    printing::put_wide(network.long);
+    printing::put_wide(network.ensure);
+    printing::put_byte(network.threshold);
     put_partial(network.partial);
-    end_line();
+    printing::end_line();
 }
 
 fn put_networks(case: u64, settings: Settings) {
@@ -128,14 +78,14 @@ fn put_networks(case: u64, settings: Settings) {
 
 // The answer of the writer, its length, and the first bytes of the lent buffer.
 fn put_written(written: Written, buffer: &[u8], shown: usize) {
-    put_byte(written.number());
+    printing::put_byte(written.number());
     match written {
-        Written::Short => put_size(0),
-        Written::Length(length) => put_size(length),
+        Written::Short => printing::put_size(0),
+        Written::Length(length) => printing::put_size(length),
     }
-    put_text(b" ");
-    put_hex(buffer, shown);
-    end_line();
+    printing::put_text(b" ");
+    printing::put_hex(buffer, shown);
+    printing::end_line();
 }
 
 fn filled() -> [u8; ROOM] {
@@ -153,16 +103,16 @@ fn write_part(settings: Settings, buffer: &mut [u8], length: usize) -> Written {
 fn write_back(case: u64, settings: Settings, length: usize) {
     let mut buffer = filled();
     let written = sheet::write(settings, &mut buffer);
-    begin_line(case);
-    put_text(b" write");
+    printing::put_digits(case);
+    printing::put_text(b" write");
     put_written(written, &buffer, length);
 }
 
 fn write_short(case: u64, settings: Settings, length: usize) {
     let mut buffer = filled();
     let written = write_part(settings, &mut buffer, length);
-    begin_line(case);
-    put_text(b" short");
+    printing::put_digits(case);
+    printing::put_text(b" short");
     put_written(written, &buffer, SHOWN);
 }
 
@@ -182,11 +132,11 @@ fn put_sheet(case: u64, settings: Settings) {
 fn put_reading(case: u64, reading: Reading) {
     let answer = reading.answer;
     let settings = reading.settings;
-    begin_line(case);
-    put_byte(answer.number());
-    put_byte(settings.count);
-    put_size(reading.place);
-    end_line();
+    printing::put_digits(case);
+    printing::put_byte(answer.number());
+    printing::put_byte(settings.count);
+    printing::put_size(reading.place);
+    printing::end_line();
     if settings.count == 0 {
         return;
     }
@@ -217,6 +167,6 @@ fn run_cases(input: &[u8]) {
 fn main() {
     let mut input = io::large_buffer();
     let count = io::read_full(STDIN_FILENO, &mut input);
-    put_text(b"expected output made by: python3 tests/sheet_cases.py\n");
+    printing::put_text(b"expected output made by: python3 tests/sheet_cases.py\n");
     run_cases(&input[..count]);
 }

@@ -33,14 +33,14 @@ slice-aggregate-put-text c = search needs
 put-text-requires : tie.Need-put-text-requires Inv-loop μ-loop
 put-text-requires c κs = search needs
 
-array-read-print-decimal : tie.Need-array-read-print-decimal Inv-loop μ-loop
-array-read-print-decimal c = search needs
+array-read-put-digits : tie.Need-array-read-put-digits Inv-loop μ-loop
+array-read-put-digits c = search needs
 
-cast-print-decimal : tie.Need-cast-print-decimal Inv-loop μ-loop
-cast-print-decimal c = search needs
+cast-put-digits : tie.Need-cast-put-digits Inv-loop μ-loop
+cast-put-digits c = search needs
 
-print-decimal-requires : tie.Need-print-decimal-requires Inv-loop μ-loop
-print-decimal-requires c κs = search needs
+put-digits-requires : tie.Need-put-digits-requires Inv-loop μ-loop
+put-digits-requires c κs = search needs
 
 add-i : tie.Need-add-i Inv-loop μ-loop
 add-i c = search needs
@@ -67,9 +67,9 @@ put-controllers-spec =
     returns
     slice-aggregate-put-text
     put-text-requires
-    array-read-print-decimal
-    cast-print-decimal
-    print-decimal-requires
+    array-read-put-digits
+    cast-put-digits
+    put-digits-requires
     add-i
     loop-less
     loop-again

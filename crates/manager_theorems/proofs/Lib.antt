@@ -1,0 +1,4 @@
+pub mod Outcomes
+pub mod Careful
+pub mod Sound
+pub mod Counts

@@ -1,0 +1,300 @@
+-- What `Kept` says of a record is given by the start and kept by every call and every tick. Assumes nothing.
+use Prim.Native.Nat.{ℕ, zero, suc, _<_}
+use native.Mathlib.Omega.{arith}
+use mathlib.Core.Path.{_≡_, refl, sym, ap, subst, _∙_}
+use mathlib.Core.List.{List, [], _∷_, _++_}
+use mathlib.Core.Bool.{Bool, true, false, cond}
+use lib.Dec.{eqb}
+use lib.ListN.{length, take, set, replicate}
+use lib.Seq.{take-nil, length-take-le}
+use Rattle.lists.specs.Lists.{first, padded}
+use Rattle.lists.proofs.Any.{first-below}
+use Rattle.lists.proofs.Parts.{padded-count, padded-store}
+use Rattle.records.specs.declared.Mode.{Mode}
+use Rattle.settings.specs.declared.Network.{Network}
+use Rattle.settings.specs.Settings.{controllersOf, member}
+use Rattle.settings.specs.Good.{InRange}
+use Rattle.steps.specs.declared.Step.{Step}
+use Rattle.steps.specs.declared.Step.the-variants.{NoCommunication, TransceiverNormal, ControllersStopped, ControllersStarted, Checking, Full, Restarting, Waiting, Silent, ClearWake, DownStopped, TransceiverStandby, ControllersSleep, CheckWake, CheckWakeAgain}
+use Rattle.steps.specs.declared.Move.{Move}
+use Rattle.steps.specs.declared.Move.the-variants.{Stay, AskAgain, Count, EnterFull, EnterSilent, Pass, Wait, GoDown, EnterNoCommunication, Enter}
+use Rattle.steps.specs.declared.Ask.{Ask}
+use Rattle.steps.specs.Steps.{asksFor, isUp}
+use Rattle.steps.specs.Decision.{isOn}
+use Rattle.steps.specs.After.{firstDown, stepAfter}
+use Rattle.network.specs.declared.Answer.{Answer}
+use Rattle.network.specs.declared.Heard.{Heard}
+use Rattle.network.specs.declared.Hit.{Hit}
+use Rattle.network.specs.declared.Report.{Report}
+use Rattle.network.specs.declared.State.{State}
+use Rattle.network.specs.State.{heard, blankAnswers, heardOf, started, wants, mayWant}
+use Rattle.network.specs.Rules.{moveOf}
+use Rattle.network.specs.Moving.{lowered, toldAfter, asksAfter, keepsAnswers, afterMove, tickState}
+use Rattle.network.specs.BusOff.{madeAnew, afterHit}
+use Rattle.network.specs.Answers.{awaits, takesReport, answerOf, withAnswers, afterAnswer, afterReport}
+use Rattle.network_theorems.specs.Kept.{isFullMode, isFullStep, isAsk, isAsking, Kept}
+use Rattle.network_theorems.proofs.Moves.{ByMove, by-move}
+
+-- ---- blank answers
+-- whatever the count, blank answers are their first ones, filled up
+blank-slots : (k : ℕ) → blankAnswers ≡ padded 4 (heard Answer.Pending) (take k blankAnswers)
+blank-slots zero = refl
+blank-slots (suc zero) = refl
+blank-slots (suc (suc zero)) = refl
+blank-slots (suc (suc (suc zero))) = refl
+blank-slots (suc (suc (suc (suc k)))) = rw (take-nil k) refl
+
+-- ---- told: full exactly in steps 4 and 5
+abbrev ToldFits : Step → Mode → Move → Type 0
+ToldFits step wanted m = (told : Mode) (partial : Bool) → isFullMode told ≡ isFullStep step → isFullMode (toldAfter m told) ≡ isFullStep (stepAfter m step partial)
+
+lowered-not-full : (told : Mode) → isFullMode (lowered told) ≡ false
+lowered-not-full Mode.No = refl
+lowered-not-full Mode.Silent = refl
+lowered-not-full Mode.Full = refl
+
+first-down-not-full : (partial : Bool) → isFullStep (firstDown partial) ≡ false
+first-down-not-full true = refl
+first-down-not-full false = refl
+
+told-fits : ByMove ToldFits
+told-fits = record {
+  stays = λ step wanted told partial e. e;
+  asks-again = λ step wanted a told partial e. e;
+  checking-counts = λ t wanted told partial e. e;
+  waiting-counts = λ t wanted told partial e. e;
+  passes = λ t wanted told partial e. e;
+  started-full = λ wanted told partial e. refl;
+  waiting-full = λ t wanted told partial e. refl;
+  silent-full = λ told partial e. refl;
+  checking-silent = λ t told partial e. refl;
+  full-silent = λ told partial e. refl;
+  waiting-silent = λ t told partial e. refl;
+  waits = λ wanted told partial e. e;
+  goes-down = λ step a told partial e. lowered-not-full told ∙ sym (first-down-not-full partial);
+  standby-ends = λ wanted told partial e. refl;
+  sleep-ends = λ wanted told partial e. refl;
+  check-ends = λ wanted told partial e. refl;
+  to-normal = λ told partial e. e;
+  to-stopped = λ told partial e. e;
+  normal-stopped = λ wanted told partial e. e;
+  stopped-started = λ wanted told partial e. e;
+  cleared-stopped = λ wanted told partial e. e;
+  stopped-sleep = λ wanted told partial e. e;
+  stopped-standby = λ wanted told partial e. e;
+  standby-sleep = λ wanted told partial e. e;
+  sleep-standby = λ wanted told partial e. e;
+  sleep-check = λ wanted told partial e. e;
+  sleep-again = λ wanted told partial e. e;
+  again-clear = λ wanted told partial e. e;
+}
+
+-- ---- wanted: silent only in steps 4 to 8
+abbrev WantedFits : Step → Mode → Move → Type 0
+WantedFits step wanted m = (partial : Bool) → (wanted ≡ Mode.Silent → isUp step ≡ true) → wanted ≡ Mode.Silent → isUp (stepAfter m step partial) ≡ true
+
+not-silent : {A : Type 0} (f : Mode.No ≡ Mode.Silent) → A
+not-silent f = absurd (let z : _≡_ {A = ℕ} 0 1 = cc in omega arith)
+
+full-not-silent : {A : Type 0} (f : Mode.Full ≡ Mode.Silent) → A
+full-not-silent f = absurd (let z : _≡_ {A = ℕ} 0 1 = cc in omega arith)
+
+false-true : {A : Type 0} (f : false ≡ true) → A
+false-true f = absurd (let z : _≡_ {A = ℕ} 0 1 = cc in omega arith)
+
+wanted-fits : ByMove WantedFits
+wanted-fits = record {
+  stays = λ step wanted partial e f. e f;
+  asks-again = λ step wanted a partial e f. e f;
+  checking-counts = λ t wanted partial e f. refl;
+  waiting-counts = λ t wanted partial e f. refl;
+  passes = λ t wanted partial e f. refl;
+  started-full = λ wanted partial e f. refl;
+  waiting-full = λ t wanted partial e f. refl;
+  silent-full = λ partial e f. refl;
+  checking-silent = λ t partial e f. refl;
+  full-silent = λ partial e f. refl;
+  waiting-silent = λ t partial e f. refl;
+  waits = λ wanted partial e f. refl;
+  goes-down = λ step a partial e f. not-silent f;
+  standby-ends = λ wanted partial e f. false-true (e f);
+  sleep-ends = λ wanted partial e f. false-true (e f);
+  check-ends = λ wanted partial e f. false-true (e f);
+  to-normal = λ partial e f. full-not-silent f;
+  to-stopped = λ partial e f. full-not-silent f;
+  normal-stopped = λ wanted partial e f. false-true (e f);
+  stopped-started = λ wanted partial e f. false-true (e f);
+  cleared-stopped = λ wanted partial e f. false-true (e f);
+  stopped-sleep = λ wanted partial e f. false-true (e f);
+  stopped-standby = λ wanted partial e f. false-true (e f);
+  standby-sleep = λ wanted partial e f. false-true (e f);
+  sleep-standby = λ wanted partial e f. false-true (e f);
+  sleep-check = λ wanted partial e f. false-true (e f);
+  sleep-again = λ wanted partial e f. false-true (e f);
+  again-clear = λ wanted partial e f. false-true (e f);
+}
+
+-- ---- asked, answers, report: no and blank in a step that asks nothing
+-- a move leaves the step as it is, enters an asking step, or forgets and has not asked
+abbrev FormFits : Step → Mode → Move → Type 0
+FormFits step wanted m =
+    (partial asked reported : Bool) (answers : List Heard)
+    → (isAsking step ≡ false → (asked ≡ false) × (answers ≡ blankAnswers) × (reported ≡ false))
+    → isAsking (stepAfter m step partial) ≡ false
+    → (asksAfter m asked ≡ false) × (cond (keepsAnswers m) answers blankAnswers ≡ blankAnswers) × (cond (keepsAnswers m) reported false ≡ false)
+
+true-false : {A : Type 0} (f : true ≡ false) → A
+true-false f = absurd (let z : _≡_ {A = ℕ} 0 1 = cc in omega arith)
+
+first-down-asks : (partial : Bool) → isAsking (firstDown partial) ≡ true
+first-down-asks true = refl
+first-down-asks false = refl
+
+form-fits : ByMove FormFits
+form-fits = record {
+  stays = λ step wanted partial asked reported answers e f. e f;
+  asks-again = λ step wanted a partial asked reported answers e f. true-false (sym a ∙ f);
+  checking-counts = λ t wanted partial asked reported answers e f. e refl;
+  waiting-counts = λ t wanted partial asked reported answers e f. e refl;
+  passes = λ t wanted partial asked reported answers e f. (refl, refl, refl);
+  started-full = λ wanted partial asked reported answers e f. (refl, refl, refl);
+  waiting-full = λ t wanted partial asked reported answers e f. (refl, refl, refl);
+  silent-full = λ partial asked reported answers e f. (refl, refl, refl);
+  checking-silent = λ t partial asked reported answers e f. (refl, refl, refl);
+  full-silent = λ partial asked reported answers e f. (refl, refl, refl);
+  waiting-silent = λ t partial asked reported answers e f. (refl, refl, refl);
+  waits = λ wanted partial asked reported answers e f. (refl, refl, refl);
+  goes-down = λ step a partial asked reported answers e f. true-false (sym (first-down-asks partial) ∙ f);
+  standby-ends = λ wanted partial asked reported answers e f. (refl, refl, refl);
+  sleep-ends = λ wanted partial asked reported answers e f. (refl, refl, refl);
+  check-ends = λ wanted partial asked reported answers e f. (refl, refl, refl);
+  to-normal = λ partial asked reported answers e f. true-false f;
+  to-stopped = λ partial asked reported answers e f. true-false f;
+  normal-stopped = λ wanted partial asked reported answers e f. true-false f;
+  stopped-started = λ wanted partial asked reported answers e f. true-false f;
+  cleared-stopped = λ wanted partial asked reported answers e f. true-false f;
+  stopped-sleep = λ wanted partial asked reported answers e f. true-false f;
+  stopped-standby = λ wanted partial asked reported answers e f. true-false f;
+  standby-sleep = λ wanted partial asked reported answers e f. true-false f;
+  sleep-standby = λ wanted partial asked reported answers e f. true-false f;
+  sleep-check = λ wanted partial asked reported answers e f. true-false f;
+  sleep-again = λ wanted partial asked reported answers e f. true-false f;
+  again-clear = λ wanted partial asked reported answers e f. true-false f;
+}
+
+slots-kept : (k : ℕ) (b : Bool) (answers : List Heard) → answers ≡ padded 4 (heard Answer.Pending) (take k answers)
+    → cond b answers blankAnswers ≡ padded 4 (heard Answer.Pending) (take k (cond b answers blankAnswers))
+slots-kept k true answers e = e
+slots-kept k false answers e = blank-slots k
+
+-- ---- the start, the tick and each call
+pub start-kept : (n : Network) → Kept n (started n)
+unfolding started
+start-kept n = record {
+  told = sym (first-down-not-full (n .partial));
+  wanted = λ f. not-silent f;
+  asked = λ f. refl;
+  answers = λ f. refl;
+  reported = λ f. refl;
+  slots = blank-slots (n .count);
+}
+
+pub tick-kept : (n : Network) (s : State) → Kept n s → Kept n (tickState n s)
+unfolding tickState afterMove moveOf
+tick-kept n s k =
+    let m = moveOf n s in
+    let form = by-move FormFits form-fits (s .step) (s .wanted) _ _ _ _ (n .partial) (s .asked) (s .reported) (s .answers) (λ f. (k .asked f, k .answers f, k .reported f)) in
+    record {
+      told = by-move ToldFits told-fits (s .step) (s .wanted) _ _ _ _ (s .told) (n .partial) (k .told);
+      wanted = by-move WantedFits wanted-fits (s .step) (s .wanted) _ _ _ _ (n .partial) (k .wanted);
+      asked = λ f. form f .0;
+      answers = λ f. form f .1;
+      reported = λ f. form f .2;
+      slots = slots-kept (n .count) (keepsAnswers m) (s .answers) (k .slots);
+    }
+
+pub want-kept : (n : Network) (s : State) (mode : Mode) → mayWant (s .step) mode ≡ true → Kept n s → Kept n (wants s mode)
+unfolding wants
+want-kept n s mode e k = record {
+  told = k .told;
+  wanted = λ f. sym (ap (mayWant (s .step)) f) ∙ e;
+  asked = k .asked;
+  answers = k .answers;
+  reported = k .reported;
+  slots = k .slots;
+}
+
+pub hit-kept : (n : Network) (s : State) (hit : Hit) → Kept n s → Kept n (afterHit s hit)
+unfolding afterHit madeAnew
+hit-kept n s Hit.Recover k = record {
+  told = refl;
+  wanted = λ f. refl;
+  asked = λ f. refl;
+  answers = λ f. refl;
+  reported = λ f. refl;
+  slots = blank-slots (n .count);
+}
+hit-kept n s Hit.Restart k = record {
+  told = k .told;
+  wanted = k .wanted;
+  asked = λ f. refl;
+  answers = λ f. refl;
+  reported = λ f. refl;
+  slots = blank-slots (n .count);
+}
+hit-kept n s Hit.NotTaken k = k
+
+-- what is taken is taken in an asking step
+awaited-asks : (ask : Ask) (report : Report) → awaits ask report ≡ true → isAsk ask ≡ true
+awaited-asks Ask.Nothing report e = e
+awaited-asks (Ask.Controllers mode) report e = refl
+awaited-asks (Ask.Transceiver mode) report e = refl
+awaited-asks Ask.ClearWake report e = refl
+awaited-asks Ask.CheckWake report e = refl
+
+taken-asks : (s : State) (report : Report) → takesReport s report ≡ true → isAsking (s .step) ≡ true
+unfolding takesReport
+taken-asks s report e = by-test (s .asked) e
+  where
+    by-test : (b : Bool) → cond b (awaits (asksFor (s .step)) report) false ≡ true → isAsking (s .step) ≡ true
+    by-test true f = awaited-asks (asksFor (s .step)) report f
+    by-test false f = false-true f
+
+pub report-kept : (n : Network) (s : State) (report : Report) → takesReport s report ≡ true → Kept n s → Kept n (afterReport s)
+unfolding afterReport
+report-kept n s report e k =
+    let a = taken-asks s report e in
+    record {
+      told = k .told;
+      wanted = k .wanted;
+      asked = k .asked;
+      answers = k .answers;
+      reported = λ f. true-false (sym a ∙ f);
+      slots = k .slots;
+    }
+
+-- the slot of a controller lies among those in use
+slot-used : (n : Network) (s : State) (id : ℕ) → InRange n → Kept n s → member id (controllersOf n) ≡ true → first (λ (x : ℕ). eqb x id) (controllersOf n) < length (heardOf n s)
+slot-used n s id g k e =
+    let c : length (controllersOf n) ≡ n .count = padded-count 4 0 (n .controllers) (n .count) (g .few-controllers) (g .blank-slots) in
+    let h : length (heardOf n s) ≡ n .count = padded-count 4 (heard Answer.Pending) (s .answers) (n .count) (g .few-controllers) (k .slots) in
+    let f = first-below (λ (x : ℕ). eqb x id) (controllersOf n) e in
+    omega arith
+
+answer-by : (n : Network) (s : State) (id mode : ℕ) (ok b : Bool) → InRange n → takesReport s (Report.Controller mode) ≡ true → Kept n s → member id (controllersOf n) ≡ b
+    → Kept n (cond b (withAnswers s (set (s .answers) (first (λ (x : ℕ). eqb x id) (controllersOf n)) (heard (answerOf ok)))) s)
+answer-by n s id mode ok false g e k f = k
+answer-by n s id mode ok true g e k f =
+    let a = taken-asks s (Report.Controller mode) e in
+    record {
+      told = k .told;
+      wanted = k .wanted;
+      asked = k .asked;
+      answers = λ d. true-false (sym a ∙ d);
+      reported = k .reported;
+      slots = padded-store 4 (heard Answer.Pending) (heard (answerOf ok)) (s .answers) (n .count) _ (k .slots) (slot-used n s id g k f);
+    }
+
+pub answer-kept : (n : Network) (s : State) (id mode : ℕ) (ok : Bool) → InRange n → takesReport s (Report.Controller mode) ≡ true → Kept n s → Kept n (afterAnswer n s id ok)
+unfolding afterAnswer
+answer-kept n s id mode ok g e k = answer-by n s id mode ok (member id (controllersOf n)) g e k refl

@@ -1,0 +1,92 @@
+-- What the layers above rely on of one network, each theorem with its sentence. docs/PROOFS.md lists them. Assumes nothing.
+use Prim.Native.Nat.{ℕ, _+_, _≤_, _<_}
+use native.Mathlib.Omega.{arith}
+use borrow.Author.Tests.{lt-ltb, le-ltb}
+use mathlib.Core.Path.{_≡_, refl, sym, ap, _∙_}
+use mathlib.Core.List.{List}
+use mathlib.Core.Bool.{Bool, true, false}
+use lib.ListN.{length}
+use Rattle.lists.specs.Lists.{every}
+use Rattle.lists.proofs.Parts.{padded-count}
+use Rattle.records.specs.declared.Mode.{Mode}
+use Rattle.settings.specs.declared.Network.{Network}
+use Rattle.settings.specs.Settings.{controllersOf}
+use Rattle.settings.specs.Good.{InRange}
+use Rattle.steps.specs.declared.Step.{Step}
+use Rattle.steps.specs.declared.Move.{Move}
+use Rattle.steps.specs.Steps.{isUp}
+use Rattle.handing.specs.Handing.{ownRecord, recovery}
+use Rattle.handing.proofs.Laws.{length-move, move-own, recovery-own}
+use Rattle.network.specs.declared.Hit.{Hit}
+use Rattle.network.specs.declared.State.{State}
+use Rattle.network.specs.State.{blankAnswers}
+use Rattle.network.specs.Rules.{delayOf, moveOf}
+use Rattle.network.specs.Moving.{afterMove, tickRecords}
+use Rattle.network.specs.BusOff.{hitRecords, madeAnew, afterHit}
+use Rattle.network_theorems.specs.Kept.{isFullMode, isFullStep, Kept}
+
+-- ---- records handed out
+-- a tick hands out at most c + 2 records for a network of c controllers
+pub tick-few : (n : Network) (s : State) → InRange n → length (tickRecords n s) ≤ n .count + 2
+unfolding tickRecords
+tick-few n s g =
+    let c : length (controllersOf n) ≡ n .count = padded-count 4 0 (n .controllers) (n .count) (g .few-controllers) (g .blank-slots) in
+    let f = g .some-controller in
+    let k : 0 < length (controllersOf n) = omega arith in
+    omega (arith, k, length-move n (s .step) (s .told) (moveOf n s))
+
+-- every record of a tick names the network's own controllers, transceiver or handle
+pub tick-own : (n : Network) (s : State) → every (ownRecord n) (tickRecords n s) ≡ true
+unfolding tickRecords
+tick-own n s = move-own n (s .step) (s .told) (moveOf n s)
+
+-- and so does every record of a bus-off
+pub hit-own : (n : Network) (hit : Hit) → every (ownRecord n) (hitRecords n hit) ≡ true
+unfolding hitRecords every Rattle.lists.specs.Lists.any
+hit-own n Hit.Recover = recovery-own n
+hit-own n Hit.Restart = refl
+hit-own n Hit.NotTaken = refl
+
+-- ---- told and wanted
+-- a network that is said to be full is in step 4 or 5
+pub told-full-means-checked-or-full : (n : Network) (s : State) → Kept n s → s .told ≡ Mode.Full → isFullStep (s .step) ≡ true
+told-full-means-checked-or-full n s k e = sym (k .told) ∙ ap isFullMode e
+
+full-mode : (m : Mode) → isFullMode m ≡ true → m ≡ Mode.Full
+full-mode Mode.No e = absurd (let z : _≡_ {A = ℕ} 0 1 = cc in omega arith)
+full-mode Mode.Silent e = absurd (let z : _≡_ {A = ℕ} 0 1 = cc in omega arith)
+full-mode Mode.Full e = refl
+
+-- and a network in step 4 or 5 is said to be full
+pub checked-or-full-means-told-full : (n : Network) (s : State) → Kept n s → isFullStep (s .step) ≡ true → s .told ≡ Mode.Full
+checked-or-full-means-told-full n s k e = full-mode (s .told) (k .told ∙ e)
+
+-- ---- the delay
+-- the long delay exactly where the count is above the threshold
+pub delay-long : (n : Network) (count : ℕ) → n .threshold < count → delayOf n count ≡ n .long
+unfolding delayOf
+delay-long n count h = rw (lt-ltb (n .threshold) count h) refl
+
+pub delay-short : (n : Network) (count : ℕ) → count ≤ n .threshold → delayOf n count ≡ n .short
+unfolding delayOf
+delay-short n count h = rw (le-ltb (n .threshold) count h) refl
+
+-- ---- answers
+-- entering an asking step forgets the answers and counts as asked
+pub entering-forgets : (n : Network) (s : State) (next : Step) → (afterMove n s (Move.Enter next) .answers ≡ blankAnswers) × (afterMove n s (Move.Enter next) .asked ≡ true)
+unfolding afterMove
+entering-forgets n s next = (refl, refl)
+
+-- sending again keeps them
+pub asking-again-keeps : (n : Network) (s : State) → (afterMove n s Move.AskAgain .answers ≡ s .answers) × (afterMove n s Move.AskAgain .asked ≡ true)
+unfolding afterMove
+asking-again-keeps n s = (refl, refl)
+
+-- a bus-off that is taken forgets them, and the step has not asked
+pub recovery-forgets : (s : State) → (afterHit s Hit.Recover .answers ≡ blankAnswers) × (afterHit s Hit.Recover .asked ≡ false)
+unfolding afterHit madeAnew
+recovery-forgets s = (refl, refl)
+
+pub restart-forgets : (s : State) → (afterHit s Hit.Restart .answers ≡ blankAnswers) × (afterHit s Hit.Restart .asked ≡ false)
+unfolding afterHit madeAnew
+restart-forgets s = (refl, refl)

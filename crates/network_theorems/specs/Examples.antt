@@ -1,0 +1,127 @@
+-- Examples of the rules of document 01, section "Tick", by computation on the definitions: at least one for each rule, as a single list
+-- under a single statement. A case is a network, its record, what a tick hands out and the record after it.
+use Prim.Native.Nat.{ℕ}
+use mathlib.Core.Path.{_≡_, refl}
+use mathlib.Core.List.{List, [], _∷_, _++_, map}
+use mathlib.Core.Bool.{Bool, true, false}
+use Rattle.lists.specs.Lists.{any, every, padded}
+use Rattle.records.specs.declared.Record.{Record}
+use Rattle.records.specs.declared.Mode.{Mode}
+use Rattle.records.specs.Records.{handed}
+use Rattle.settings.specs.declared.Transceiver.{Transceiver}
+use Rattle.settings.specs.declared.Network.{Network}
+use Rattle.steps.specs.declared.Step.{Step}
+use Rattle.steps.specs.declared.Step.the-variants.{NoCommunication, TransceiverNormal, ControllersStopped, ControllersStarted, Checking, Full, Restarting, Waiting, Silent, ClearWake, DownStopped, TransceiverStandby, ControllersSleep, CheckWake, CheckWakeAgain}
+use Rattle.steps.specs.Decision.{decision}
+use Rattle.handing.specs.Handing.{requests, entering, enteringFull, enteringSilent, downNotices, goingDown, moveRecords}
+use Rattle.network.specs.declared.Answer.{Answer}
+use Rattle.network.specs.declared.State.{State}
+use Rattle.network.specs.State.{heard}
+use Rattle.network.specs.Rules.{isDone, delayOf, moveOf}
+use Rattle.network.specs.Moving.{afterMove, tickState, tickRecords}
+
+-- ---- three networks: handle 7, controllers 3 and 4, delays 2 and 5, ensure time 3, threshold 1
+abbrev network : Transceiver → Bool → Network
+network transceiver partial =
+    record { handle = 7; controllers = 3 ∷ 4 ∷ 0 ∷ 0 ∷ []; count = 2; transceiver = transceiver; short = 2; long = 5; ensure = 3; threshold = 1; partial = partial }
+
+abbrev bare : Network
+bare = network Transceiver.Absent false
+
+abbrev fitted : Network
+fitted = network (Transceiver.Present 6) false
+
+abbrev partial : Network
+partial = network (Transceiver.Present 6) true
+
+-- a record: step, wanted and told mode, bus-off count, asked, the answers of the two controllers, the report
+abbrev at : Step → Mode → Mode → ℕ → Bool → Answer → Answer → Bool → State
+at step wanted told count asked first second reported =
+    record { step = step; wanted = wanted; told = told; count = count; asked = asked; answers = heard first ∷ heard second ∷ heard Answer.Pending ∷ heard Answer.Pending ∷ []; reported = reported }
+
+-- a step that has not asked; one that has, and heard nothing; one that has, with both controllers' ok; one with its report
+abbrev quiet : Step → Mode → Mode → ℕ → State
+quiet step wanted told count = at step wanted told count false Answer.Pending Answer.Pending false
+
+abbrev asking : Step → Mode → Mode → ℕ → State
+asking step wanted told count = at step wanted told count true Answer.Pending Answer.Pending false
+
+abbrev agreed : Step → Mode → Mode → ℕ → State
+agreed step wanted told count = at step wanted told count true Answer.Okay Answer.Okay false
+
+abbrev told-so : Step → Mode → Mode → ℕ → State
+told-so step wanted told count = at step wanted told count true Answer.Pending Answer.Pending true
+
+pub record Case : Type 0 where
+  pub settings : Network
+  pub before : State
+  pub records : List Record
+  pub after : State
+
+abbrev case : Network → State → List Record → State → Case
+case n before records after = record { settings = n; before = before; records = records; after = after }
+
+-- a record for each of the two controllers
+abbrev both : ℕ → ℕ → List Record
+both kind argument = handed kind 3 argument ∷ handed kind 4 argument ∷ []
+
+abbrev pub examples : List Case
+examples =
+    -- "0: wanted full, enter 1, or 2 without transceiver."
+    case fitted (quiet NoCommunication Mode.Full Mode.No 0) (handed 2 6 0 ∷ []) (asking TransceiverNormal Mode.Full Mode.No 0)
+    ∷ case bare (quiet NoCommunication Mode.Full Mode.No 0) (both 1 0) (asking ControllersStopped Mode.Full Mode.No 0)
+    ∷ case bare (quiet NoCommunication Mode.No Mode.No 0) [] (quiet NoCommunication Mode.No Mode.No 0)
+    -- "1 to 8: wanted no, go down. This comes first." "Go down: 7 no; 6 silent if told full; then the first down step and its requests."
+    ∷ case bare (agreed ControllersStarted Mode.No Mode.No 0) (handed 7 7 0 ∷ both 1 0) (asking DownStopped Mode.No Mode.No 0)
+    ∷ case bare (quiet (Checking 2) Mode.No Mode.Full 1) (handed 7 7 0 ∷ handed 6 7 1 ∷ both 1 0) (asking DownStopped Mode.No Mode.Silent 1)
+    ∷ case partial (quiet Full Mode.No Mode.Full 0) (handed 7 7 0 ∷ handed 6 7 1 ∷ handed 4 6 0 ∷ []) (asking ClearWake Mode.No Mode.Silent 0)
+    ∷ case bare (quiet (Waiting 1) Mode.No Mode.Silent 1) (handed 7 7 0 ∷ both 1 0) (asking DownStopped Mode.No Mode.Silent 1)
+    -- "1 done to 2; 2 done to 3; 3 done, enter full." "Enter full: 3 online for each, 6 full, 7 full, tick count 0, step 4."
+    ∷ case fitted (told-so TransceiverNormal Mode.Full Mode.No 0) (both 1 0) (asking ControllersStopped Mode.Full Mode.No 0)
+    ∷ case fitted (agreed ControllersStopped Mode.Full Mode.No 0) (both 1 1) (asking ControllersStarted Mode.Full Mode.No 0)
+    ∷ case fitted (agreed ControllersStarted Mode.Full Mode.No 0) (both 3 0 ++ (handed 6 7 2 ∷ handed 7 7 2 ∷ [])) (quiet (Checking 0) Mode.Full Mode.Full 0)
+    -- "A later tick, if it isn't done, sends them all again and sets asked; what is already answered stays."
+    ∷ case bare (at ControllersStarted Mode.Full Mode.No 0 true Answer.Okay Answer.Pending false) (both 1 1) (at ControllersStarted Mode.Full Mode.No 0 true Answer.Okay Answer.Pending false)
+    ∷ case bare (quiet Restarting Mode.Full Mode.Silent 1) (both 1 1) (asking Restarting Mode.Full Mode.Silent 1)
+    -- "4 and 5: wanted silent, enter silent." "Enter silent: 3 TX offline for each, 6 silent, 7 silent, step 8."
+    ∷ case bare (quiet (Checking 2) Mode.Silent Mode.Full 1) (both 3 1 ++ (handed 6 7 1 ∷ handed 7 7 1 ∷ [])) (quiet Silent Mode.Silent Mode.Silent 1)
+    ∷ case bare (quiet Full Mode.Silent Mode.Full 0) (both 3 1 ++ (handed 6 7 1 ∷ handed 7 7 1 ∷ [])) (quiet Silent Mode.Silent Mode.Silent 0)
+    -- "Else in 4 the tick count rises by one; at the ensure time: 8 passed, count 0, step 5."
+    ∷ case bare (quiet (Checking 1) Mode.Full Mode.Full 2) [] (quiet (Checking 2) Mode.Full Mode.Full 2)
+    ∷ case bare (quiet (Checking 2) Mode.Full Mode.Full 2) (handed 8 7 0 ∷ []) (quiet Full Mode.Full Mode.Full 0)
+    -- "6 done: 3 TX offline for each controller, tick count 0, step 7."
+    ∷ case bare (agreed Restarting Mode.Full Mode.Silent 1) (both 3 1) (quiet (Waiting 0) Mode.Full Mode.Silent 1)
+    -- "7: the tick count rises by one; when it reaches L2 (count above threshold) or L1 (otherwise), enter full or silent, as wanted."
+    ∷ case bare (quiet (Waiting 0) Mode.Full Mode.Silent 1) [] (quiet (Waiting 1) Mode.Full Mode.Silent 1)
+    ∷ case bare (quiet (Waiting 1) Mode.Full Mode.Silent 1) (both 3 0 ++ (handed 6 7 2 ∷ handed 7 7 2 ∷ [])) (quiet (Checking 0) Mode.Full Mode.Full 1)
+    ∷ case bare (quiet (Waiting 1) Mode.Full Mode.Silent 2) [] (quiet (Waiting 2) Mode.Full Mode.Silent 2)
+    ∷ case bare (quiet (Waiting 4) Mode.Full Mode.Silent 2) (both 3 0 ++ (handed 6 7 2 ∷ handed 7 7 2 ∷ [])) (quiet (Checking 0) Mode.Full Mode.Full 2)
+    ∷ case bare (quiet (Waiting 1) Mode.Silent Mode.Silent 1) (both 3 1 ++ (handed 6 7 1 ∷ handed 7 7 1 ∷ [])) (quiet Silent Mode.Silent Mode.Silent 1)
+    -- "8: wanted full, enter full."
+    ∷ case bare (quiet Silent Mode.Full Mode.Silent 1) (both 3 0 ++ (handed 6 7 2 ∷ handed 7 7 2 ∷ [])) (quiet (Checking 0) Mode.Full Mode.Full 1)
+    ∷ case bare (quiet Silent Mode.Silent Mode.Silent 1) [] (quiet Silent Mode.Silent Mode.Silent 1)
+    -- "Without PN: 10 to 12, 12 to 11 or, without transceiver, to 0; 11 to 0." "Enter 0: 6 no."
+    ∷ case bare (agreed DownStopped Mode.No Mode.No 0) (both 1 2) (asking ControllersSleep Mode.No Mode.No 0)
+    ∷ case bare (agreed ControllersSleep Mode.No Mode.No 0) (handed 6 7 0 ∷ []) (quiet NoCommunication Mode.No Mode.No 0)
+    ∷ case fitted (agreed ControllersSleep Mode.No Mode.Silent 1) (handed 2 6 1 ∷ []) (asking TransceiverStandby Mode.No Mode.Silent 1)
+    ∷ case fitted (told-so TransceiverStandby Mode.No Mode.Silent 1) (handed 6 7 0 ∷ []) (quiet NoCommunication Mode.No Mode.No 1)
+    -- "With PN: 9, 10, 11, 12 in turn."
+    ∷ case partial (told-so ClearWake Mode.No Mode.No 0) (both 1 0) (asking DownStopped Mode.No Mode.No 0)
+    ∷ case partial (agreed DownStopped Mode.No Mode.No 0) (handed 2 6 1 ∷ []) (asking TransceiverStandby Mode.No Mode.No 0)
+    ∷ case partial (told-so TransceiverStandby Mode.No Mode.No 0) (both 1 2) (asking ControllersSleep Mode.No Mode.No 0)
+    -- "In 12, if some controller's last answer is a refusal, 14; else when done, 13. 13 to 0; 14 to 9."
+    ∷ case partial (at ControllersSleep Mode.No Mode.No 0 true Answer.Pending Answer.Refused false) (handed 5 6 0 ∷ []) (asking CheckWakeAgain Mode.No Mode.No 0)
+    ∷ case bare (at ControllersSleep Mode.No Mode.No 0 true Answer.Okay Answer.Refused false) (both 1 2) (at ControllersSleep Mode.No Mode.No 0 true Answer.Okay Answer.Refused false)
+    ∷ case partial (agreed ControllersSleep Mode.No Mode.No 0) (handed 5 6 0 ∷ []) (asking CheckWake Mode.No Mode.No 0)
+    ∷ case partial (told-so CheckWake Mode.Full Mode.No 0) (handed 6 7 0 ∷ []) (quiet NoCommunication Mode.Full Mode.No 0)
+    ∷ case partial (told-so CheckWakeAgain Mode.No Mode.No 0) (handed 4 6 0 ∷ []) (asking ClearWake Mode.No Mode.No 0)
+    ∷ []
+
+-- what a tick gives for a case's network and record
+abbrev ticked : Case → Case
+ticked c = case (c .settings) (c .before) (tickRecords (c .settings) (c .before)) (tickState (c .settings) (c .before))
+
+-- the definitions give just these records handed out and these records after them
+pub tick-examples : map ticked examples ≡ examples
+unfolding any every decision requests entering enteringFull enteringSilent downNotices goingDown moveRecords isDone delayOf moveOf afterMove tickState tickRecords
+tick-examples = refl
