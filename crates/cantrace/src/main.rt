@@ -1,0 +1,15 @@
+// `cantrace`: reads a recorded input, a sheet and then events, from standard input, and writes its lines.
+use libc::STDIN_FILENO;
+
+// One byte more than the longest input, so that a longer one is seen.
+const ROOM: usize = 65537;
+
+fn room() -> [u8; ROOM] {
+    [0; ROOM]
+}
+
+fn main() {
+    let mut input = room();
+    let count = io::read_full(STDIN_FILENO, &mut input);
+    trace::run(&input[..count]);
+}

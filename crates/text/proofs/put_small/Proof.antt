@@ -1,0 +1,26 @@
+-- `text::put_small` meets its contract. Assumes nothing.
+use Prim.Native.Nat.{_<_}
+use native.Mathlib.Omega.{arith}
+use borrow.Author.Needs.{needs}
+use Rattle.text.proofs.Laws.{decimal-small}
+use Rattle.text.proofs.put_small.Statement.{statement}
+use Rattle.text.proofs.put_small.Tie as tie
+
+put-digits-requires : tie.Need-put-digits-requires
+put-digits-requires c κs =
+    let a = c .before .before in
+    let g : a .args .number < 256 = search needs in
+    omega (arith, a .pre, decimal-small (a .args .number) g)
+
+same-length : tie.Need-same-length
+same-length c = search needs
+
+returns : tie.Need-returns
+returns c =
+    let a = c .before .before .before .before .before in
+    let g : a .args .number < 256 = search needs in
+    let t = c .before .before .put-digits .ensures in
+    (t, omega (arith, t .place, decimal-small (a .args .number) g))
+
+pub put-small-spec : {M : Type 1} → statement M
+put-small-spec = tie.close (tie.spec put-digits-requires same-length returns)

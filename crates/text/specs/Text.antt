@@ -1,0 +1,44 @@
+-- Numbers and records as text, from document 01, section "The program": "each record as kind:target:argument"; "All decimal". The codes are ASCII.
+use Prim.Native.Nat.{ℕ, zero, suc, _+_, _/_, _%_}
+use mathlib.Core.List.{List, [], _∷_, _++_}
+use mathlib.Core.Bool.{cond}
+use lib.Dec.{ltb}
+use lib.ListN.{getD, drop}
+use Rattle.records.specs.declared.Record.{Record}
+use Rattle.records.specs.Records.{handed}
+
+abbrev pub blank : ℕ
+blank = 32
+
+abbrev pub colon : ℕ
+colon = 58
+
+abbrev pub newline : ℕ
+newline = 10
+
+-- the code of a decimal digit; the code of 0 is 48
+abbrev pub digit : ℕ → ℕ
+digit d = 48 + d
+
+-- a number in decimal digits, without zeros in front, as far as so many digits go
+unfoldable pub digitsUpTo : ℕ → ℕ → List ℕ
+digitsUpTo zero n = []
+digitsUpTo (suc most) n = cond (ltb n 10) (digit n ∷ []) (digitsUpTo most (n / 10) ++ (digit (n % 10) ∷ []))
+
+-- a number in decimal digits: there are no more than it counts, and one
+unfoldable pub decimal : ℕ → List ℕ
+decimal n = digitsUpTo (suc n) n
+
+-- "each record as kind:target:argument"
+unfoldable pub recordText : Record → List ℕ
+recordText r = decimal (r .kind) ++ (colon ∷ (decimal (r .target) ++ (colon ∷ decimal (r .argument))))
+
+-- each record after a blank
+unfoldable pub recordsText : List Record → List ℕ
+recordsText [] = []
+recordsText (r ∷ rs) = (blank ∷ recordText r) ++ recordsText rs
+
+-- so many records, as they stand at the front of a lent buffer
+unfoldable pub recordsAt : ℕ → List ℕ → List Record
+recordsAt zero buffer = []
+recordsAt (suc n) buffer = handed (getD buffer 0 0) (getD buffer 1 0) (getD buffer 2 0) ∷ recordsAt n (drop 3 buffer)

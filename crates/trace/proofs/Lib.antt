@@ -1,0 +1,4 @@
+pub mod Splits
+pub mod EventLaws
+pub mod Telling
+pub mod Theorems

@@ -1,0 +1,66 @@
+-- The events, from document 01, section "The program": "10 request (handle, mode), 11 bus-off (controller), 12 answer (controller, mode, ok), 13
+-- transceiver mode (id, mode), 14 clear done (id), 15 check done (id), 16 tick (empty), 17 poll (handle)", and the call of the manager that each is.
+use Prim.Native.Nat.{ℕ}
+use mathlib.Core.List.{List}
+use mathlib.Core.Bool.{cond}
+use lib.Dec.{eqb}
+use lib.ListN.{length, getD, replicate}
+use Rattle.fields.specs.Fields.{Row, stop, stub, overrun, field}
+use Rattle.manager.specs.declared.Manager.{Manager}
+use Rattle.manager.specs.declared.Outcome.{Outcome}
+use Rattle.manager.specs.Calls.{requestOf, pollOf, controllerAnswerOf, transceiverModeOf, clearDoneOf, checkDoneOf, busOffOf, busOffBuffer, tickOf, tickBuffer}
+use Rattle.trace.specs.declared.Event.{Event}
+use Rattle.trace.specs.declared.Item.{Item}
+
+-- an event whose field has the length that its tag asks for; "An event field that is .. of wrong length gives `stop`"
+abbrev pub sized : ℕ → ℕ → Event → Item
+sized n wanted event = cond (eqb n wanted) (Item.Known event) Item.Bad
+
+-- a field with its tag, its length and the first bytes of its value
+unfoldable pub eventOf : ℕ → ℕ → ℕ → ℕ → ℕ → Item
+eventOf tag n first second third =
+    cond (eqb tag 0x10) (sized n 2 (Event.Request first second))
+    (cond (eqb tag 0x11) (sized n 1 (Event.BusOff first))
+    (cond (eqb tag 0x12) (sized n 3 (Event.Answer first second third))
+    (cond (eqb tag 0x13) (sized n 2 (Event.TransceiverMode first second))
+    (cond (eqb tag 0x14) (sized n 1 (Event.ClearDone first))
+    (cond (eqb tag 0x15) (sized n 1 (Event.CheckDone first))
+    (cond (eqb tag 0x16) (sized n 0 Event.Tick)
+    (cond (eqb tag 0x17) (sized n 1 (Event.Poll first))
+    Item.Bad)))))))
+
+unfoldable pub itemOf : ℕ → List ℕ → Item
+itemOf tag v = eventOf tag (length v) (getD v 0 0) (getD v 1 0) (getD v 2 0)
+
+-- what stands at the front of a row: "An event field that is cut, unknown, below 10 or of wrong length gives `stop`"
+unfoldable pub itemAt : Row → Item
+itemAt (stop at) = Item.End
+itemAt (stub at tag) = Item.Bad
+itemAt (overrun at tag n) = Item.Bad
+itemAt (field at tag v rest) = itemOf tag v
+
+-- "Its lent buffer has 144 bytes, room for any call."
+abbrev pub lent : List ℕ
+lent = replicate 144 0
+
+-- what the manager's call gives
+unfoldable pub outcomeOf : Manager → Event → Outcome
+outcomeOf m (Event.Request handle mode) = requestOf m handle mode
+outcomeOf m (Event.BusOff controller) = busOffOf m controller lent
+outcomeOf m (Event.Answer controller mode ok) = controllerAnswerOf m controller mode ok
+outcomeOf m (Event.TransceiverMode transceiver mode) = transceiverModeOf m transceiver mode
+outcomeOf m (Event.ClearDone transceiver) = clearDoneOf m transceiver
+outcomeOf m (Event.CheckDone transceiver) = checkDoneOf m transceiver
+outcomeOf m Event.Tick = tickOf m lent
+outcomeOf m (Event.Poll handle) = pollOf m handle
+
+-- the lent buffer after the call
+unfoldable pub bufferOf : Manager → Event → List ℕ
+bufferOf m (Event.Request handle mode) = lent
+bufferOf m (Event.BusOff controller) = busOffBuffer m controller lent
+bufferOf m (Event.Answer controller mode ok) = lent
+bufferOf m (Event.TransceiverMode transceiver mode) = lent
+bufferOf m (Event.ClearDone transceiver) = lent
+bufferOf m (Event.CheckDone transceiver) = lent
+bufferOf m Event.Tick = tickBuffer m lent
+bufferOf m (Event.Poll handle) = lent

@@ -1,0 +1,4 @@
+pub mod Splitting
+pub mod Events
+pub mod Lines
+pub mod Trace

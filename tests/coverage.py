@@ -1,0 +1,472 @@
+"""What recorded inputs reach of document 01, held against what the program can reach at all.
+
+A run of the model is watched on its way; the model stays as it is. What can be reached is worked out from the model's own
+rules, from the start of a network on, so a list of cases can be held against it:
+
+steps         the fifteen steps
+transitions   each step and next step that a tick or a bus-off can make, for each outfit; staying is one too
+decisions     each thing that a tick can find: what the model's `next_step` is given
+answers       each number that reading the sheet or an event can be answered with
+refusals      the refusal numbers among the answers
+records       each kind of record with each argument
+endings       each way in which the program's output can end
+"""
+
+from collections import Counter
+from functools import lru_cache
+from typing import Dict, FrozenSet, Iterable, Iterator, List, NamedTuple, Set, Tuple
+from unittest import mock
+
+import model
+from model import EventTag, Limit, Mode, Outfit, Refusal, Step
+
+OUTFIT_NAMES = {
+    Outfit.NO_TRANSCEIVER: "bare",
+    Outfit.TRANSCEIVER: "fitted",
+    Outfit.PARTIAL_NETWORKING: "partial",
+}
+MODE_NAMES = {Mode.NO: "no", Mode.SILENT: "silent", Mode.FULL: "full"}
+CONFIG = 0  # stands in the place of an event's tag for the reading of the sheet
+EVENT_NAMES = {
+    CONFIG: "config",
+    EventTag.REQUEST: "request",
+    EventTag.BUS_OFF: "bus-off",
+    EventTag.CONTROLLER_ANSWER: "answer",
+    EventTag.TRANSCEIVER_MODE: "transceiver mode",
+    EventTag.CLEAR_DONE: "clear done",
+    EventTag.CHECK_DONE: "check done",
+    EventTag.TICK: "tick",
+    EventTag.POLL: "poll",
+}
+MOVING_EVENTS = (EventTag.TICK, EventTag.BUS_OFF)
+
+
+class Situation(NamedTuple):
+    """What the tick's one decision looks at, in the order of the model's `next_step`."""
+
+    step: int
+    wanted: int
+    done: bool
+    refusal_present: bool
+    reached: bool
+    outfit: int
+
+
+class Transition(NamedTuple):
+    """A tick or a bus-off brings a network of this outfit from a step to a step, perhaps the same."""
+
+    outfit: int
+    cause: int
+    step: int
+    next_step: int
+
+
+# ---------------------------------------------------------------------------
+# What can be reached
+# ---------------------------------------------------------------------------
+
+SHEET_REFUSALS = tuple(range(Refusal.SHEET_CUT, Refusal.SHEET_NO_NETWORK + 1))
+
+# The table of refusal numbers, read for the program: which number which event can be answered with.
+POSSIBLE_ANSWERS = {
+    CONFIG: (model.ACCEPTED, *SHEET_REFUSALS),
+    EventTag.REQUEST: (
+        model.ACCEPTED, Refusal.UNKNOWN_HANDLE, Refusal.SILENT_NOT_NOW, Refusal.VALUE_OUT_OF_RANGE,
+    ),
+    EventTag.BUS_OFF: (model.ACCEPTED, Refusal.UNKNOWN_CONTROLLER, Refusal.NOT_TAKEN),
+    EventTag.CONTROLLER_ANSWER: (
+        model.ACCEPTED, Refusal.UNKNOWN_CONTROLLER, Refusal.VALUE_OUT_OF_RANGE, Refusal.NOT_TAKEN,
+    ),
+    EventTag.TRANSCEIVER_MODE: (
+        model.ACCEPTED, Refusal.UNKNOWN_TRANSCEIVER, Refusal.VALUE_OUT_OF_RANGE, Refusal.NOT_TAKEN,
+    ),
+    EventTag.CLEAR_DONE: (model.ACCEPTED, Refusal.UNKNOWN_TRANSCEIVER, Refusal.NOT_TAKEN),
+    EventTag.CHECK_DONE: (model.ACCEPTED, Refusal.UNKNOWN_TRANSCEIVER, Refusal.NOT_TAKEN),
+    EventTag.TICK: (model.ACCEPTED,),
+    EventTag.POLL: (model.ACCEPTED, Refusal.UNKNOWN_HANDLE),
+}
+
+# The refusal numbers of document 01 that the program cannot give, and why.
+UNREACHABLE_REFUSALS = {
+    Refusal.NOT_READY: "the program makes every call on a started manager",
+    Refusal.ALREADY_STARTED: "the program reads one sheet and starts once",
+    Refusal.BUFFER_TOO_SHORT: "the program's lent buffer of 144 bytes has room for any call",
+}
+
+# 'Records handed out': how many arguments a kind has; they are numbered from 0.
+ARGUMENTS_OF_KIND = {
+    model.Kind.CONTROLLER_MODE: 3,
+    model.Kind.TRANSCEIVER_MODE: 2,
+    model.Kind.PDU_MODE: 2,
+    model.Kind.CLEAR_WAKE_FLAG: 1,
+    model.Kind.CHECK_WAKE_FLAG: 1,
+    model.Kind.COMMUNICATION_MANAGER: 3,
+    model.Kind.MODE_MANAGER: 4,
+    model.Kind.EVENT_MANAGER: 2,
+}
+
+# Steps that a network does not come to for want of something in its settings.
+TRANSCEIVER_STEPS = (Step.UP_TRANSCEIVER_NORMAL, Step.DOWN_TRANSCEIVER_STANDBY)
+PARTIAL_STEPS = model.CLEAR_STEPS + model.CHECK_STEPS
+FOREIGN_STEP = "a network of this outfit never comes to the step"
+
+
+class Ending:
+    """The ways in which the output of the program can end."""
+
+    WHOLE = "whole input"
+    TOO_LONG = "too long"
+    SHEET_REFUSED = "sheet refused"
+    HEADER_CUT = "stop, header cut"
+    TAG_BELOW = "stop, tag below 10"
+    TAG_UNKNOWN = "stop, tag above 17"
+    LENGTH_ABOVE = "stop, length above that of the tag"
+    LENGTH_BELOW = "stop, length below that of the tag"
+    VALUE_CUT = "stop, value cut"
+
+    ALL = (
+        WHOLE, TOO_LONG, SHEET_REFUSED, HEADER_CUT, TAG_BELOW, TAG_UNKNOWN, LENGTH_ABOVE, LENGTH_BELOW, VALUE_CUT,
+    )
+
+
+def contradiction(situation: Situation) -> str:
+    """Why no record of a network is as this situation says, whatever its outfit; empty where one can be."""
+    step = situation.step
+    if situation.wanted == Mode.SILENT and step not in model.UP_STEPS:
+        return "silent is wanted in steps 4 to 8 only (refusal 08, and wanted no goes before a shutdown)"
+    if situation.done and step not in model.ASKING_STEPS:
+        return "a step that asks nothing is not done"
+    if situation.refusal_present and step not in model.CONTROLLER_MODE_OF_STEP:
+        return "only a step that asks controllers has their answers"
+    if situation.refusal_present and situation.done:
+        return "with a refusal among the last answers a step is not done"
+    if situation.reached and step not in model.TIMED_STEPS:
+        return "only steps 4 and 7 have a timer"
+    return ""
+
+
+def example_settings(outfit: int) -> model.Settings:
+    """The settings of a network of this outfit."""
+    transceiver = None if outfit == Outfit.NO_TRANSCEIVER else 5
+    partial = 1 if outfit == Outfit.PARTIAL_NETWORKING else 0
+    return model.Settings(7, [3], transceiver, 2, 5, 3, 1, partial)
+
+
+def bus_off_transitions(outfit: int, step: int) -> Iterator[Transition]:
+    """Where a bus-off takes a network of this outfit from this step; nothing where it is refused."""
+    network = model.NetworkRecord(example_settings(outfit), step, [None])
+    if model.takes_bus_off(network):
+        model.bus_off_network(network)
+        yield Transition(outfit, EventTag.BUS_OFF, step, network.step)
+
+
+@lru_cache(maxsize=None)
+def sound_situations() -> Tuple[Situation, ...]:
+    """All situations without a contradiction in themselves."""
+    situations = (Situation(*situation) for situation in model.situations())
+    return tuple(situation for situation in situations if not contradiction(situation))
+
+
+def tick_transitions(outfit: int, step: int) -> Iterator[Transition]:
+    """Where a tick can take a network of this outfit from this step."""
+    for situation in sound_situations():
+        if (situation.outfit, situation.step) == (outfit, step):
+            yield Transition(outfit, EventTag.TICK, step, model.next_step(*situation))
+
+
+def transitions_from(outfit: int, step: int) -> Set[Transition]:
+    """Where a tick or a bus-off can take a network of this outfit from this step."""
+    return {*tick_transitions(outfit, step), *bus_off_transitions(outfit, step)}
+
+
+@lru_cache(maxsize=None)
+def possible_transitions(outfit: int) -> FrozenSet[Transition]:
+    """All transitions of a network of this outfit: those from its first step, those from where they lead, and so on."""
+    found: Set[Transition] = set()
+    seen: Set[int] = set()
+    left = {model.first_down_step(outfit)}
+    while left:
+        step = left.pop()
+        seen.add(step)
+        found |= transitions_from(outfit, step)
+        left |= {transition.next_step for transition in found} - seen
+    return frozenset(found)
+
+
+def reachable_steps(outfit: int) -> Set[int]:
+    """The steps that a network of this outfit can come to, its first step among them."""
+    return {transition.step for transition in possible_transitions(outfit)}
+
+
+@lru_cache(maxsize=None)
+def possible_situations() -> Tuple[Situation, ...]:
+    """All situations that a tick can find, in the model's order."""
+    return tuple(
+        situation for situation in sound_situations() if situation.step in reachable_steps(situation.outfit)
+    )
+
+
+@lru_cache(maxsize=None)
+def possible() -> Dict[str, FrozenSet]:
+    """All that the program can reach, by the names in the first lines of this file."""
+    answers = frozenset((tag, answer) for tag, numbers in POSSIBLE_ANSWERS.items() for answer in numbers)
+    records = frozenset((kind, argument) for kind, number in ARGUMENTS_OF_KIND.items() for argument in range(number))
+    transitions = frozenset().union(*(possible_transitions(outfit) for outfit in model.ALL_OUTFITS))
+    return {
+        "steps": frozenset(transition.step for transition in transitions),
+        "transitions": transitions,
+        "decisions": frozenset(possible_situations()),
+        "answers": answers,
+        "refusals": frozenset(answer for _, answer in answers if answer != model.ACCEPTED),
+        "records": records,
+        "endings": frozenset(Ending.ALL),
+    }
+
+
+# ---------------------------------------------------------------------------
+# What was reached
+# ---------------------------------------------------------------------------
+
+
+def situation_of(network: model.NetworkRecord) -> Situation:
+    """What a tick finds in this network."""
+    return Situation(
+        network.step,
+        network.wanted,
+        model.is_done(network),
+        model.refusal_is_present(network),
+        model.timer_is_reached(network),
+        model.outfit_of(network.settings),
+    )
+
+
+def stop_reason(data: bytes, place: int) -> str:
+    """Why the program stops at the event field at this place."""
+    if len(data) - place < Limit.HEADER_BYTES:
+        return Ending.HEADER_CUT
+    tag = data[place]
+    length = model.two_byte_number(data, place + 1)
+    if tag < EventTag.FIRST:
+        return Ending.TAG_BELOW
+    if tag not in model.LENGTH_OF_EVENT:
+        return Ending.TAG_UNKNOWN
+    if length > model.LENGTH_OF_EVENT[tag]:
+        return Ending.LENGTH_ABOVE
+    if length < model.LENGTH_OF_EVENT[tag]:
+        return Ending.LENGTH_BELOW
+    return Ending.VALUE_CUT
+
+
+def ending_of(data: bytes, output: str) -> str:
+    """How the output for this input ends."""
+    last_line = output.splitlines()[-1]
+    words = last_line.split()
+    if last_line == "too long":
+        return Ending.TOO_LONG
+    if words[0] == "stop":
+        return stop_reason(data, int(words[1]))
+    if words[0] == "config" and int(words[1]) != model.ACCEPTED:
+        return Ending.SHEET_REFUSED
+    return Ending.WHOLE
+
+
+class Reached:
+    """How often each thing was reached, by the names in the first lines of this file."""
+
+    def __init__(self) -> None:
+        self.times: Dict[str, Counter] = {name: Counter() for name in possible()}
+
+    def note_answer(self, tag: int, answer: int) -> None:
+        """Reading the sheet, or an event, was answered so."""
+        self.times["answers"][tag, answer] += 1
+        if answer != model.ACCEPTED:
+            self.times["refusals"][answer] += 1
+
+    def note_transition(self, cause: int, found: Situation, next_step: int) -> None:
+        """A tick or a bus-off found a network so and left it in the next step."""
+        self.times["transitions"][Transition(found.outfit, cause, found.step, next_step)] += 1
+        self.times["steps"][next_step] += 1
+        if cause == EventTag.TICK:
+            self.times["decisions"][found] += 1
+
+    def note_event(self, tag: int, outcome: model.Outcome) -> None:
+        """An event came to this outcome."""
+        self.note_answer(tag, outcome.answer)
+        for kind, _, argument in outcome.records:
+            self.times["records"][kind, argument] += 1
+
+    def note_output(self, data: bytes, output: str) -> None:
+        """The first line of a whole output, and how it ends."""
+        words = output.split()
+        if words[0] == "config":
+            self.note_answer(CONFIG, int(words[1]))
+        self.times["endings"][ending_of(data, output)] += 1
+
+
+def moved_networks(manager: model.Manager, tag: int, value: bytes) -> List[model.NetworkRecord]:
+    """The networks whose step this event may change: all at a tick, that of the controller at a bus-off."""
+    if tag == EventTag.TICK:
+        return manager.networks
+    network = manager.network_of_controller(value[0])
+    return [] if network is None else [network]
+
+
+def watched_cantrace(data: bytes, reached: Reached) -> str:
+    """What `model.cantrace` gives; on the way it is noted what the run reaches."""
+    plain_run_event = model.run_event
+
+    def run_event(manager: model.Manager, tag: int, value: bytes) -> model.Outcome:
+        """The model's `run_event`, watched."""
+        moving = moved_networks(manager, tag, value) if tag in MOVING_EVENTS else []
+        found = [situation_of(network) for network in moving]
+        outcome = plain_run_event(manager, tag, value)
+        reached.note_event(tag, outcome)
+        if outcome.answer == model.ACCEPTED:
+            for situation, network in zip(found, moving):
+                reached.note_transition(tag, situation, network.step)
+        return outcome
+
+    with mock.patch.object(model, "run_event", run_event):
+        output = model.cantrace(data)
+    reached.note_output(data, output)
+    return output
+
+
+# ---------------------------------------------------------------------------
+# In words
+# ---------------------------------------------------------------------------
+
+
+def yes_or_no(words: str, holds: bool) -> str:
+    """A property in words, or its contrary."""
+    return words if holds else f"not {words}"
+
+
+def situation_words(situation: Situation) -> str:
+    """A situation in words, such as 'bare, step 4, full wanted, not at its time'."""
+    words = [OUTFIT_NAMES[situation.outfit], f"step {situation.step}", f"{MODE_NAMES[situation.wanted]} wanted"]
+    if situation.step in model.ASKING_STEPS:
+        words.append(yes_or_no("done", situation.done))
+    if situation.refusal_present:
+        words.append("a refusal")
+    if situation.step in model.TIMED_STEPS:
+        words.append(yes_or_no("at its time", situation.reached))
+    return ", ".join(words)
+
+
+def transition_words(transition: Transition) -> str:
+    """A transition in words, such as 'bare, tick, 4 to 5'."""
+    outfit = OUTFIT_NAMES[transition.outfit]
+    return f"{outfit}, {EVENT_NAMES[transition.cause]}, {transition.step} to {transition.next_step}"
+
+
+def words_of(name: str, thing: object) -> str:
+    """One of the things that can be reached, in words."""
+    if name == "transitions":
+        return transition_words(thing)
+    if name == "decisions":
+        return situation_words(thing)
+    if name == "answers":
+        return f"{EVENT_NAMES[thing[0]]} answered {thing[1]:02X}"
+    if name == "refusals":
+        return f"{thing:02X}"
+    if name == "records":
+        return f"kind {thing[0]} argument {thing[1]}"
+    return str(thing)
+
+
+def missing(reached: Reached) -> List[str]:
+    """What could be reached and was not, a line each."""
+    return [
+        f"{name}: {words_of(name, thing)}"
+        for name, things in possible().items()
+        for thing in sorted(things)
+        if thing not in reached.times[name]
+    ]
+
+
+def surprises(reached: Reached) -> List[str]:
+    """What was reached though it is not among what can be, a line each: then this file is wrong."""
+    return [
+        f"{name}: {words_of(name, thing)}"
+        for name, things in possible().items()
+        for thing in sorted(set(reached.times[name]) - things)
+    ]
+
+
+def summary(reached: Reached) -> List[str]:
+    """How many of the things that can be reached were, a line for each name."""
+    return [
+        f"  {name:12} {len(things & set(reached.times[name])):4} of {len(things):4}"
+        for name, things in possible().items()
+    ]
+
+
+def rows(entries: Iterable[str], width: int = 110) -> Iterator[str]:
+    """Short entries in lines of about this width."""
+    line: List[str] = []
+    for entry in entries:
+        if sum(len(word) + 3 for word in line) + len(entry) > width:
+            yield "  " + "   ".join(line)
+            line = []
+        line.append(entry)
+    yield "  " + "   ".join(line)
+
+
+def transition_rows(reached: Reached) -> Iterator[str]:
+    """How often each transition was made, by outfit and cause."""
+    times = reached.times["transitions"]
+    for outfit in model.ALL_OUTFITS:
+        for cause in MOVING_EVENTS:
+            yield f"transitions of a {OUTFIT_NAMES[outfit]} network by {EVENT_NAMES[cause]}, step>next step: times"
+            chosen = [move for move in sorted(possible_transitions(outfit)) if move.cause == cause]
+            yield from rows(f"{move.step}>{move.next_step}: {times[move]}" for move in chosen)
+
+
+def answer_rows(reached: Reached) -> Iterator[str]:
+    """How often each number was the answer, by event; the numbers are hexadecimal as in document 01."""
+    yield "answers, number: times"
+    times = reached.times["answers"]
+    for tag, numbers in POSSIBLE_ANSWERS.items():
+        words = "   ".join(f"{answer:02X}: {times[tag, answer]}" for answer in sorted(numbers))
+        yield f"  {EVENT_NAMES[tag]:16} {words}"
+
+
+def missing_steps(outfit: int) -> str:
+    """The steps that a network of this outfit never comes to, and why."""
+    absent = [step for step in model.ALL_STEPS if step not in reachable_steps(outfit)]
+    reasons = []
+    for steps, reason in ((TRANSCEIVER_STEPS, "it has no transceiver"), (PARTIAL_STEPS, "it has no partial networking")):
+        found = [str(step) for step in absent if step in steps]
+        if found:
+            reasons.append(f"{', '.join(found)} ({reason})")
+    return "; ".join(reasons) or "none"
+
+
+def unreachable() -> Iterator[str]:
+    """What the program cannot reach, with the reasons."""
+    yield "not to be reached in the program:"
+    for refusal, reason in UNREACHABLE_REFUSALS.items():
+        yield f"  refusal {refusal:02X}: {reason}"
+    for outfit in model.ALL_OUTFITS:
+        yield f"  steps of a {OUTFIT_NAMES[outfit]} network: {missing_steps(outfit)}"
+    situations = [Situation(*situation) for situation in model.situations()]
+    reasons = Counter(contradiction(situation) or FOREIGN_STEP for situation in situations)
+    reasons[FOREIGN_STEP] -= len(possible_situations())
+    yield f"  of the {len(situations)} situations of the tick's decision {len(possible_situations())} can occur; of the others"
+    for reason, number in reasons.most_common():
+        yield f"    {number} cannot: {reason}"
+
+
+def table(reached: Reached) -> List[str]:
+    """The whole table: the summary, and how often each thing was reached."""
+    steps, records, endings = (reached.times[name] for name in ("steps", "records", "endings"))
+    lines = ["reached, of all that the program can reach:", *summary(reached)]
+    lines.append("steps: times that a tick or a bus-off ended there")
+    lines += rows(f"{step}: {steps[step]}" for step in sorted(possible()["steps"]))
+    lines += transition_rows(reached)
+    lines += answer_rows(reached)
+    lines.append("records, kind:argument: times")
+    lines += rows(f"{kind}:{argument}: {records[kind, argument]}" for kind, argument in sorted(possible()["records"]))
+    lines.append("endings: times")
+    return lines + [f"  {ending}: {endings[ending]}" for ending in Ending.ALL]

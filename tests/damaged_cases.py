@@ -1,0 +1,242 @@
+"""Cases for the program `trace_cases` with damaged sheets and damaged events, and the longest inputs.
+
+Beside a damaged input stands the last line that document 01 gives it, written by hand; refusals print as decimal numbers, so
+30 to 38 are 48 to 56. The fields of the 25-byte sheet begin at 0, 4, 8, 17 and 21.
+"""
+
+from typing import Iterator
+
+import model
+from model import EventTag, Limit, Step, Tag
+from traces import LARGEST, SHEET, TICK, WHOLE_CASE, Case, Trace, field, network
+
+HANDLE, CONTROLLER, NO_PARTIAL = SHEET[:4], SHEET[4:8], SHEET[21:]
+TRANSCEIVER = bytes.fromhex("03000105")
+# A second network, with other ids.
+SECOND = bytes.fromhex("01000108 02000104 040006000100020001 05000100 06000100")
+LARGEST_SHEET = model.write_sheet(LARGEST)
+SOME_EVENTS = WHOLE_CASE[25:46]  # five events
+
+
+# ---------------------------------------------------------------------------
+# Sheets
+# ---------------------------------------------------------------------------
+
+
+def cut_sheet_cases() -> Iterator[Case]:
+    """The 25-byte sheet cut at every length (0, 21 and 24 are B1, B4 and B3), and cut between fields before events."""
+    for length in range(1, len(SHEET)):
+        place = max(start for start in (0, 4, 8, 17, 21) if start <= length)
+        if length not in (21, 24):
+            yield Case(f"the sheet's first {length} bytes", SHEET[:length], f"config 48 {place}")
+    for length in (4, 8, 17, 21):
+        data = SHEET[:length] + TICK + SOME_EVENTS
+        yield Case(f"the sheet's first {length} bytes, then events", data, f"config 48 {length}")
+    yield Case("a second network without its last field, then a tick", SHEET + SECOND[:21] + TICK, "config 48 46")
+    yield Case("a second network cut in its times", SHEET + SECOND[:14], "config 48 33")
+
+
+# What follows the 25-byte sheet, in hexadecimal.
+AFTER_THE_SHEET = [
+    ("a lone 09", "09", "config 48 25"),
+    ("09 and half a length", "0900", "config 48 25"),
+    ("09 and a length that overruns", "090005aabb", "config 49 25"),
+    ("a whole field of tag 09, then a tick", "090001aa 160000", "config 49 25"),
+    ("a whole field of tag 0f, then a tick", "0f0000 160000", "config 49 25"),
+    ("a field of tag 00, then a tick", "000000 160000", "config 49 25"),
+    ("a field of tag 07 that swallows all events", "07000c 160000 160000 160000 160000", "config 49 25"),
+    ("a lone 01", "01", "config 48 25"),
+    ("a handle without its value", "010001", "config 48 25"),
+]
+
+# Sheets by refusal. Each is followed by a tick, which must not be run.
+DAMAGED_SHEETS = [
+    # 31: unknown tag
+    ("tag 00", bytes(3) + SHEET, "config 49 0"),
+    ("tag 07", SHEET[:8] + bytes.fromhex("07000100") + SHEET[8:], "config 49 8"),
+    ("tag 0f in a second network", SHEET + SECOND[:21] + bytes.fromhex("0f0000") + SECOND[21:], "config 49 46"),
+    # 32: length not that of the tag
+    ("handle of length 0", bytes.fromhex("010000") + SHEET[4:], "config 50 0"),
+    ("handle of length 257", bytes.fromhex("010101") + bytes(257) + SHEET[4:], "config 50 0"),
+    ("controller of length 2", HANDLE + bytes.fromhex("0200020304") + SHEET[8:], "config 50 4"),
+    ("transceiver of length 0", SHEET[:8] + bytes.fromhex("030000") + SHEET[8:], "config 50 8"),
+    ("times of length 5", SHEET[:8] + bytes.fromhex("0400050001000100") + SHEET[17:], "config 50 8"),
+    ("times of length 7", SHEET[:8] + bytes.fromhex("04000700010001000100") + SHEET[17:], "config 50 8"),
+    ("threshold of length 65,535, which overruns", SHEET[:17] + bytes.fromhex("05ffff01") + SHEET[21:], "config 50 17"),
+    ("a last field that swallows the tick", SHEET[:21] + bytes.fromhex("06000400"), "config 50 21"),
+    # 33: tag not allowed here
+    ("controller first", SHEET[4:], "config 51 0"),
+    ("handle twice", HANDLE + SHEET, "config 51 4"),
+    ("transceiver before controllers", HANDLE + TRANSCEIVER + SHEET[4:], "config 51 4"),
+    ("times after the handle", HANDLE + SHEET[8:], "config 51 4"),
+    ("threshold after the controller", SHEET[:8] + SHEET[17:], "config 51 8"),
+    ("transceiver twice", SHEET[:8] + TRANSCEIVER + bytes.fromhex("03000104") + SHEET[8:], "config 51 12"),
+    ("transceiver after the times", SHEET[:17] + TRANSCEIVER + SHEET[17:], "config 51 17"),
+    ("partial networking after the times", SHEET[:17] + NO_PARTIAL, "config 51 17"),
+    ("a second network before the end of the first", SHEET[:21] + SECOND, "config 51 21"),
+    ("a controller after the end of a network", SHEET + SECOND[4:], "config 51 25"),
+    # 34: value out of range
+    ("controller 32", HANDLE + bytes.fromhex("02000120") + SHEET[8:], "config 52 4"),
+    ("transceiver 8", SHEET[:8] + bytes.fromhex("03000108") + SHEET[8:], "config 52 8"),
+    ("long delay zero", SHEET[:13] + bytes(2) + SHEET[15:], "config 52 8"),
+    ("ensure time zero", SHEET[:15] + bytes(2) + SHEET[17:], "config 52 8"),
+    ("partial networking 2, before 37", SHEET[:24] + b"\x02", "config 52 21"),
+    ("controller 255 in a second network", SHEET + SECOND[:7] + b"\xff" + SECOND[8:], "config 52 29"),
+    # 35: id used before
+    ("the handle of the first network", SHEET + HANDLE + SECOND[4:], "config 53 25"),
+    ("the controller of the first network", SHEET + SECOND[:4] + CONTROLLER + SECOND[8:], "config 53 29"),
+    ("the transceiver of the first network",
+     SHEET[:8] + TRANSCEIVER + SHEET[8:] + SECOND[:8] + TRANSCEIVER + SECOND[8:], "config 53 37"),
+    ("a fifth controller that is used",
+     HANDLE + b"".join(field(Tag.CONTROLLER, number) for number in (0, 1, 2, 3, 3)) + SHEET[8:], "config 53 20"),
+    ("a ninth network with a used handle", LARGEST_SHEET + field(Tag.HANDLE, 255), "config 53 328"),
+    # 36: ninth network or fifth controller
+    ("a fifth controller",
+     HANDLE + b"".join(field(Tag.CONTROLLER, number) for number in range(5)) + SHEET[8:], "config 54 20"),
+    ("a ninth network", LARGEST_SHEET + field(Tag.HANDLE, 1), "config 54 328"),
+    # 37: partial networking without transceiver; the first network has one
+    ("a second network without transceiver",
+     SHEET[:8] + TRANSCEIVER + SHEET[8:24] + b"\x01" + SECOND[:24] + b"\x01", "config 55 50"),
+]
+
+# 38: no sheet, since the first tag is 10 or above; in hexadecimal.
+WITHOUT_SHEET = [
+    ("a tick first", "160000"),
+    ("a lone 10 first", "10"),
+    ("a tag ff first, cut", "ff00"),
+    ("a tick before the sheet", "160000" + SHEET.hex()),
+    ("the whole case without its sheet", WHOLE_CASE[25:].hex()),
+]
+
+
+def sheet_cases() -> Iterator[Case]:
+    """Each refusal of the sheet at different places, and what the walk to the first event takes for the sheet."""
+    yield from cut_sheet_cases()
+    for words, after, last_line in AFTER_THE_SHEET:
+        yield Case(f"the sheet and {words}", SHEET + bytes.fromhex(after), last_line)
+    for words, sheet, last_line in DAMAGED_SHEETS:
+        yield Case(f"damaged sheet: {words}", sheet + TICK, last_line)
+    for words, data in WITHOUT_SHEET:
+        yield Case(f"no sheet: {words}", bytes.fromhex(data), "config 56 0")
+
+
+# ---------------------------------------------------------------------------
+# Events
+# ---------------------------------------------------------------------------
+
+# Fields that the program stops at wherever they stand, in hexadecimal.
+BAD_EVENTS = [
+    ("tag 18", "180000"),
+    ("tag ff", "ff0000"),
+    ("request of length 1", "10000107"),
+    ("bus-off of length 0", "110000"),
+    ("answer of length 2", "1200020300"),
+    ("transceiver mode of length 3", "130003050000"),
+    ("clear done of length 2", "1400020505"),
+    ("check done of length 2", "1500020505"),
+    ("tick of length 1", "16000100"),
+    ("poll of length 0", "170000"),
+    # The length has two bytes, and the high one counts.
+    ("tick of length 256", "160100" + "16" * 256),
+    ("request of length 65,535, which overruns", "10ffff0702"),
+]
+BAD_LATER_EVENTS = [
+    ("tag 7f", "7f000100"),
+    ("request of length 3", "100003070200"),
+    ("bus-off of length 2", "1100020300"),
+    ("answer of length 4", "12000403000100"),
+    ("transceiver mode of length 1", "13000105"),
+    ("clear done of length 0", "140000"),
+    ("check done of length 0", "150000"),
+    ("poll of length 2", "1700020707"),
+    ("poll of length 257", "170101" + "07" * 257),
+    # After events began a tag below 10 is bad; before, it belongs to the sheet.
+    ("tag 0f", "0f0000"),
+    ("tag 00", "000000"),
+    ("a handle, as in a sheet", "01000107"),
+    ("the sheet again", SHEET.hex()),
+]
+
+# Fields that the end of the input cuts.
+CUT_EVENTS = [
+    ("a lone 16", "16"),
+    ("a tick with half a length", "1600"),
+    ("a lone ff", "ff"),
+    ("a request without its mode", "10000207"),
+    ("a bus-off without its controller", "110001"),
+    ("an answer without its ok", "1200030300"),
+]
+CUT_LATER_EVENTS = [
+    ("a lone 10", "10"),
+    ("a poll with half a length", "1700"),
+    ("a transceiver mode without its mode", "13000205"),
+    ("a clear done without its transceiver", "140001"),
+    ("a check done without its transceiver", "150001"),
+    ("a poll without its handle", "170001"),
+    ("tag 09, cut", "0900"),
+    ("tag 18 and a length that overruns", "180002aa"),
+]
+
+
+def event_cases() -> Iterator[Case]:
+    """Stops at the first event, at offset 25, at the sixth, at offset 46, and farther on; no later event is run."""
+    for words, bad in BAD_EVENTS:
+        yield Case(f"first event: {words}", SHEET + bytes.fromhex(bad) + TICK, "stop 25")
+    for words, bad in CUT_EVENTS:
+        yield Case(f"first event: {words}", SHEET + bytes.fromhex(bad), "stop 25")
+    for words, bad in BAD_LATER_EVENTS:
+        yield Case(f"sixth event: {words}", SHEET + SOME_EVENTS + bytes.fromhex(bad) + TICK, "stop 46")
+    for words, bad in CUT_LATER_EVENTS:
+        yield Case(f"sixth event: {words}", SHEET + SOME_EVENTS + bytes.fromhex(bad), "stop 46")
+    yield Case("tag 18 after the largest sheet", LARGEST_SHEET + bytes.fromhex("180000"), "stop 328")
+    yield Case("a lone 16 after 300 ticks", SHEET + TICK * 300 + b"\x16", "stop 925")
+
+
+# ---------------------------------------------------------------------------
+# The longest inputs
+# ---------------------------------------------------------------------------
+
+LONGEST = Limit.PROGRAM_INPUT_BYTES
+
+
+def fill_to(trace: Trace, length: int) -> None:
+    """Ticks, and at the end one to three polls, up to exactly this length."""
+    left = length - trace.length
+    polls = left % len(TICK) or len(TICK)
+    trace.tick((left - polls * len(field(EventTag.POLL, 0))) // len(TICK))
+    for _ in range(polls):
+        trace.poll()
+    if trace.length != length:
+        raise ValueError(f"{length} bytes were to be filled, and it is {trace.length}")
+
+
+def ticks_to_the_end(length: int) -> bytes:
+    """Up to full, then ticks to the very end; passed comes at the ensure time of 20,000 ticks."""
+    trace = Trace(network(7, [3, 12], times=(2, 5, 20000)))
+    trace.go_to(Step.FULL_BEING_CHECKED)
+    fill_to(trace, length)
+    return trace.recorded()
+
+
+def lively_to_the_end(last: bytes) -> bytes:
+    """Up, silent, bus-off and down, over and over, and these bytes as the very last of the longest input."""
+    trace = Trace(network(200, [3], 6, times=(1, 2, 2)))
+    while trace.length < LONGEST - 400:
+        for step in (Step.FULL, Step.SILENT, Step.WAITING_TX_OFFLINE, Step.NO_COMMUNICATION):
+            trace.go_to(step)
+    fill_to(trace, LONGEST - len(last))
+    return trace.recorded() + last
+
+
+def longest_cases() -> Iterator[Case]:
+    """65,536 bytes are taken, 65,537 are too long. The event numbers come to five digits."""
+    one_field = b"\x09" + (LONGEST - 3).to_bytes(2, "big") + bytes(LONGEST - 3)
+    many_fields = bytes.fromhex("0f0000") * (LONGEST // 3) + b"\x0f"
+    fields_and_a_tick = SHEET + bytes(LONGEST - len(SHEET) - len(TICK)) + TICK
+    yield Case("the longest input, to the very end", ticks_to_the_end(LONGEST), "21826 0 2")
+    yield Case("the longest input, its last field cut", lively_to_the_end(bytes.fromhex("1200030301")), "stop 65531")
+    yield Case("the longest input, one field of tag 09", one_field, "config 49 0")
+    yield Case("the longest input, as many fields as can be", many_fields, "config 49 0")
+    yield Case("the longest input, a sheet, many fields, a tick", fields_and_a_tick, "config 49 25")
+    yield Case("one byte too long, zeros", bytes(LONGEST + 1), "too long")
+    yield Case("one byte too long, a good trace", ticks_to_the_end(LONGEST + 1), "too long")

@@ -1,0 +1,658 @@
+"""Cases for the program `trace_cases` that are played in a closed loop: good sheets, good events, every step and transition.
+
+A case says "go to step 7, then a bus-off"; the requests on the way are answered ok before the next tick.
+"""
+
+from typing import Iterator, List, Tuple
+
+import coverage
+import model
+from model import ControllerMode, EventTag, Limit, Mode, Outfit, Step
+from traces import BENCH, FULL_STEPS, LARGEST, NOT_OK, OF_OUTFIT, OK, SHEET, TICK, WHOLE_CASE
+from traces import Case, Trace, answer_to, arrange, network
+
+UNKNOWN_ID = 99
+
+
+# ---------------------------------------------------------------------------
+# The whole case and the bench cases of document 01
+# ---------------------------------------------------------------------------
+
+
+def one_bus_off() -> bytes:
+    """One bus-off in step 5, full on the fourth tick."""
+    trace = Trace(BENCH)
+    trace.go_to(Step.FULL)
+    trace.bus_off()
+    trace.replied_tick(4)
+    trace.poll()
+    return trace.recorded()
+
+
+def second_bus_off_in_waiting() -> bytes:
+    """A second bus-off in step 7, full on the seventh tick after it."""
+    trace = Trace(BENCH)
+    trace.go_to(Step.FULL)
+    trace.go_to(Step.WAITING_TX_OFFLINE)
+    trace.bus_off()
+    trace.replied_tick(6)
+    trace.poll()
+    trace.replied_tick()
+    trace.poll()
+    return trace.recorded()
+
+
+def started_answer_before_the_request() -> bytes:
+    """A started answer between bus-off and next tick is refused, and does not count afterwards."""
+    trace = Trace(BENCH)
+    trace.go_to(Step.FULL)
+    trace.bus_off()
+    trace.event(EventTag.CONTROLLER_ANSWER, 3, ControllerMode.STARTED, OK)
+    trace.tick(2)
+    trace.replied_tick()
+    return trace.recorded()
+
+
+def silent_in_no_communication() -> bytes:
+    """Silent asked for in step 0."""
+    trace = Trace(BENCH)
+    trace.go_to(Step.NO_COMMUNICATION)
+    trace.want(Mode.SILENT)
+    return trace.recorded()
+
+
+def passed_on_the_third_tick() -> bytes:
+    """After full is told, passed comes on the third tick."""
+    trace = Trace(BENCH)
+    trace.go_to(Step.FULL_BEING_CHECKED)
+    trace.tick(3)
+    return trace.recorded()
+
+
+def paper_cases() -> Iterator[Case]:
+    """Those of document 01. A tick with too short a buffer, as in B12, is not possible in the program."""
+    yield Case("the whole case", WHOLE_CASE, "18 0 2")
+    yield Case("B1: empty input", b"", "config 56 0")
+    yield Case("B2: the sheet alone", SHEET, "config 0 1")
+    yield Case("B3: its first 24 bytes", SHEET[:24], "config 48 21")
+    yield Case("B4: its first 21 bytes", SHEET[:21], "config 48 21")
+    yield Case("B5: short delay zero", SHEET[:11] + bytes(2) + SHEET[13:] + TICK, "config 52 8")
+    yield Case("B6: the controller field twice", SHEET[:8] + SHEET[4:] + TICK, "config 53 8")
+    yield Case("B7: threshold 254", SHEET[:20] + b"\xfe" + SHEET[21:] + TICK, "1 0 1:3:0")
+    yield Case("B7: threshold 255", SHEET[:20] + b"\xff" + SHEET[21:] + TICK, "config 52 17")
+    yield Case("B8: partial networking without transceiver", SHEET[:24] + b"\x01" + TICK, "config 55 21")
+    yield Case("B9: one bus-off in step 5", one_bus_off(), "21 0 2")
+    yield Case("B9: a second one in step 7", second_bus_off_in_waiting(), "29 0 2")
+    yield Case("B10: a started answer before the new request", started_answer_before_the_request(), "20 0 3:3:1")
+    yield Case("B11: silent in step 0", silent_in_no_communication(), "6 8")
+    yield Case("B12: passed on the third tick", passed_on_the_third_tick(), "14 0 8:7:0")
+
+
+# ---------------------------------------------------------------------------
+# Ticks: in each step of each outfit, each thing that a tick can find there
+# ---------------------------------------------------------------------------
+
+
+def ticks_in_step(outfit: int, step: int) -> bytes:
+    """Each situation in turn: a tick, a poll, and one more tick after all answers."""
+    trace = Trace(OF_OUTFIT[outfit])
+    for situation in coverage.possible_situations():
+        if (situation.outfit, situation.step) == (outfit, step):
+            arrange(trace, situation)
+            trace.tick()
+            trace.poll()
+            trace.replied_tick()
+    return trace.recorded()
+
+
+def tick_cases() -> Iterator[Case]:
+    """Every transition that a tick can make is among them, and every way to stay."""
+    for outfit, name in coverage.OUTFIT_NAMES.items():
+        for step in sorted(coverage.reachable_steps(outfit)):
+            yield Case(f"{name}, ticks in step {step}", ticks_in_step(outfit, step))
+
+
+# ---------------------------------------------------------------------------
+# Calls: in each step of each outfit, each event with each kind of value
+# ---------------------------------------------------------------------------
+
+
+def every_request(trace: Trace) -> None:
+    """Requests of silent and of no mode, of a known and an unknown handle; then the wanted mode is as before."""
+    before = trace.network().wanted
+    for mode in (Mode.SILENT, 3, 255):
+        trace.want(mode)
+        trace.event(EventTag.REQUEST, UNKNOWN_ID, mode)
+    trace.want(before)
+
+
+def every_answer(trace: Trace) -> None:
+    """Answers of the first controller: each mode, first not ok, then ok; beyond the ranges; of an unknown one."""
+    controller = trace.controllers()[0]
+    for ok in (NOT_OK, OK):
+        for mode in (ControllerMode.STOPPED, ControllerMode.STARTED, ControllerMode.SLEEP):
+            trace.event(EventTag.CONTROLLER_ANSWER, controller, mode, ok)
+    trace.event(EventTag.CONTROLLER_ANSWER, controller, 3, OK)
+    trace.event(EventTag.CONTROLLER_ANSWER, controller, ControllerMode.STOPPED, 2)
+    trace.event(EventTag.CONTROLLER_ANSWER, UNKNOWN_ID, 3, 2)
+
+
+def every_report(trace: Trace) -> None:
+    """Reports of an unknown transceiver, then of the known one, or of 5 where there is none: clear, check, each mode."""
+    own = trace.network().settings.transceiver
+    for transceiver in (UNKNOWN_ID, 5 if own is None else own):
+        trace.event(EventTag.TRANSCEIVER_MODE, transceiver, 3)
+        trace.event(EventTag.TRANSCEIVER_MODE, transceiver, 2)
+        trace.event(EventTag.CLEAR_DONE, transceiver)
+        trace.event(EventTag.CHECK_DONE, transceiver)
+        trace.event(EventTag.TRANSCEIVER_MODE, transceiver, model.TransceiverMode.NORMAL)
+        trace.event(EventTag.TRANSCEIVER_MODE, transceiver, model.TransceiverMode.STANDBY)
+
+
+def calls_in_step(outfit: int, step: int) -> bytes:
+    """Every event with known and unknown ids, then a tick; in the step again a bus-off, and ticks after it."""
+    trace = Trace(OF_OUTFIT[outfit])
+    trace.go_to(step)
+    trace.poll()
+    trace.event(EventTag.POLL, UNKNOWN_ID)
+    trace.event(EventTag.BUS_OFF, UNKNOWN_ID)
+    every_request(trace)
+    every_answer(trace)
+    every_report(trace)
+    trace.tick()
+    trace.poll()
+    trace.go_to(step)
+    trace.bus_off(controller=1)
+    trace.poll()
+    trace.replied_tick(3)
+    return trace.recorded()
+
+
+def call_cases() -> Iterator[Case]:
+    """A bus-off in each step is among them, and every number that an event can be answered with.
+
+    01, 0B and 20 cannot occur in the program: it reads one sheet, starts once, makes its calls on a started manager, and
+    lends 144 bytes, which is room for any call.
+    """
+    for outfit, name in coverage.OUTFIT_NAMES.items():
+        for step in sorted(coverage.reachable_steps(outfit)):
+            yield Case(f"{name}, every call in step {step}", calls_in_step(outfit, step))
+
+
+# ---------------------------------------------------------------------------
+# Bus-offs and the delays
+# ---------------------------------------------------------------------------
+
+
+def recover(trace: Trace) -> None:
+    """After a bus-off: replied ticks until the network is full again."""
+    trace.go_to(Step.FULL_BEING_CHECKED)
+    trace.poll()
+
+
+def short_long_short() -> bytes:
+    """The short delay at the threshold, the long one above it, and after passed the short one again."""
+    trace = Trace(BENCH)
+    trace.go_to(Step.FULL)
+    for _ in range(2):
+        trace.bus_off()
+        recover(trace)
+    trace.go_to(Step.FULL)
+    trace.bus_off()
+    recover(trace)
+    return trace.recorded()
+
+
+def two_recoveries(times: Tuple[int, int, int], threshold: int) -> bytes:
+    """Two bus-offs and their recoveries, with these times and this threshold."""
+    trace = Trace(network(7, [3], times=times, threshold=threshold))
+    trace.go_to(Step.FULL)
+    for _ in range(2):
+        trace.bus_off()
+        recover(trace)
+    trace.go_to(Step.FULL)
+    return trace.recorded()
+
+
+def many_bus_offs(number: int) -> bytes:
+    """So many bus-offs at the threshold 254, then the delay; after passed one more bus-off."""
+    trace = Trace(network(7, [3], times=(1, 4, 2), threshold=254))
+    trace.go_to(Step.FULL)
+    for _ in range(number):
+        trace.bus_off()
+    recover(trace)
+    trace.go_to(Step.FULL)
+    trace.bus_off()
+    recover(trace)
+    return trace.recorded()
+
+
+def bus_offs_in_restarting() -> bytes:
+    """In step 6: before the request, after it, after one answer, after both."""
+    trace = Trace(network(7, [3, 12], threshold=4))
+    trace.go_to(Step.RESTARTING)
+    trace.bus_off(controller=1)
+    trace.tick()
+    trace.bus_off()
+    trace.tick()
+    trace.event(EventTag.CONTROLLER_ANSWER, 3, ControllerMode.STARTED, OK)
+    trace.bus_off()
+    trace.event(EventTag.CONTROLLER_ANSWER, 12, ControllerMode.STARTED, OK)
+    trace.tick()
+    trace.reply()
+    trace.bus_off(controller=1)
+    trace.tick(2)
+    recover(trace)
+    return trace.recorded()
+
+
+def bus_offs_in_waiting() -> bytes:
+    """In step 7 at each tick count; the delay begins anew each time."""
+    trace = Trace(network(7, [3], times=(3, 4, 2), threshold=2))
+    for ticks in range(4):
+        trace.go_to(Step.WAITING_TX_OFFLINE)
+        trace.tick(ticks)
+        trace.bus_off()
+    recover(trace)
+    return trace.recorded()
+
+
+def bus_offs_in_coming_up() -> bytes:
+    """In step 3 before and after an answer; they are not counted: the one in step 4 has the short delay."""
+    trace = Trace(network(7, [3, 12]))
+    trace.go_to(Step.UP_CONTROLLERS_STARTED)
+    trace.bus_off()
+    trace.event(EventTag.CONTROLLER_ANSWER, 3, ControllerMode.STARTED, OK)
+    trace.tick()
+    trace.reply()
+    trace.bus_off(controller=1)
+    trace.bus_off()
+    trace.tick()
+    trace.event(EventTag.CONTROLLER_ANSWER, 12, ControllerMode.STARTED, OK)
+    trace.tick()
+    trace.replied_tick()
+    trace.poll()
+    trace.bus_off()
+    recover(trace)
+    return trace.recorded()
+
+
+def count_through(step: int) -> bytes:
+    """The way through this step and back to full keeps the count: the second bus-off has the long delay."""
+    trace = Trace(BENCH)
+    trace.go_to(Step.FULL)
+    trace.bus_off()
+    recover(trace)
+    trace.go_to(step)
+    trace.go_to(Step.FULL_BEING_CHECKED)
+    trace.bus_off()
+    recover(trace)
+    return trace.recorded()
+
+
+def recovery_with_other_wishes(step: int, modes: List[int]) -> bytes:
+    """A bus-off in silent; in this step of the recovery these modes are requested one after the other."""
+    trace = Trace(OF_OUTFIT[Outfit.TRANSCEIVER])
+    trace.go_to(Step.SILENT)
+    trace.bus_off()
+    while trace.network().step != step:
+        trace.replied_tick()
+    for mode in modes:
+        trace.want(mode)
+        trace.poll()
+    trace.replied_tick(6)
+    trace.poll()
+    return trace.recorded()
+
+
+def late_started_answer() -> bytes:
+    """The answer to a request from before a bus-off that comes after the next tick cannot be told apart, and is taken."""
+    trace = Trace(BENCH)
+    trace.go_to(Step.UP_CONTROLLERS_STARTED)
+    late = answer_to(trace.open_requests[0])
+    trace.bus_off()
+    trace.event(*late)
+    trace.tick()
+    trace.event(*late)
+    trace.tick()
+    trace.poll()
+    return trace.recorded()
+
+
+def each_controller_of_four() -> bytes:
+    """Bus-offs of each controller of a network of four."""
+    trace = Trace(network(0, [31, 0, 17, 5], 0, times=(1, 2, 1), threshold=3))
+    trace.go_to(Step.FULL)
+    for controller in range(4):
+        trace.bus_off(controller=controller)
+        recover(trace)
+    return trace.recorded()
+
+
+def bus_off_cases() -> Iterator[Case]:
+    """Short and long delay, the count to its end and beyond, bus-offs while others are being recovered from."""
+    yield Case("short delay, long delay, short delay", short_long_short())
+    yield Case("threshold 0: the first bus-off is above it", two_recoveries((1, 4, 2), 0))
+    yield Case("long delay below the short one", two_recoveries((6, 1, 2), 1))
+    yield Case("all times 1", two_recoveries((1, 1, 1), 0))
+    for number in (254, 255, 256, 300):
+        yield Case(f"{number} bus-offs at the threshold 254", many_bus_offs(number))
+    yield Case("bus-offs in step 6", bus_offs_in_restarting())
+    yield Case("bus-offs in step 7", bus_offs_in_waiting())
+    yield Case("bus-offs in step 3", bus_offs_in_coming_up())
+    yield Case("the count through a shutdown", count_through(Step.NO_COMMUNICATION))
+    yield Case("the count through silent", count_through(Step.SILENT))
+    yield Case("bus-off in silent, back to silent", recovery_with_other_wishes(Step.RESTARTING, []))
+    for step in (Step.RESTARTING, Step.WAITING_TX_OFFLINE):
+        yield Case(f"bus-off in silent, full wanted in step {step}", recovery_with_other_wishes(step, [Mode.FULL]))
+        yield Case(f"bus-off in silent, no wanted in step {step}", recovery_with_other_wishes(step, [Mode.NO]))
+    yield Case("the wish changed twice in step 7", recovery_with_other_wishes(7, [Mode.NO, Mode.SILENT]))
+    yield Case("a late started answer", late_started_answer())
+    yield Case("bus-offs of each controller of four", each_controller_of_four())
+
+
+# ---------------------------------------------------------------------------
+# Answers
+# ---------------------------------------------------------------------------
+
+
+def last_answer_counts(first: int, second: int) -> bytes:
+    """In each step on the way up the last one asked answers twice more; the second answer counts."""
+    trace = Trace(network(7, [3, 12], 6))
+    trace.want(Mode.FULL)
+    trace.tick()
+    while trace.network().step != Step.FULL_BEING_CHECKED:
+        step = trace.network().step
+        requests = trace.open_requests
+        trace.reply()
+        for request in requests[-1:]:
+            trace.event(*answer_to(request, first))
+            trace.event(*answer_to(request, second))
+        trace.tick()
+        if trace.network().step == step:
+            trace.replied_tick()
+    return trace.recorded()
+
+
+def answers_trickle_in() -> bytes:
+    """Four controllers answer one at a tick, twice each and not in the order of the requests; what is answered stays."""
+    trace = Trace(network(7, [9, 2, 25, 14]))
+    trace.want(Mode.FULL)
+    trace.tick()
+    while trace.network().step != Step.FULL_BEING_CHECKED:
+        requests = trace.open_requests
+        for place in (2, 0, 3, 1) if requests else ():
+            trace.event(*answer_to(requests[place]))
+            trace.event(*answer_to(requests[place]))
+            trace.tick()
+        if not requests:
+            trace.tick()
+    trace.poll()
+    return trace.recorded()
+
+
+def before_the_first_tick(outfit: int) -> bytes:
+    """Nothing is asked yet: all answers are refused, and the first tick asks all the same."""
+    trace = Trace(OF_OUTFIT[outfit])
+    every_answer(trace)
+    every_report(trace)
+    trace.bus_off()
+    trace.poll()
+    trace.tick(2)
+    return trace.recorded()
+
+
+def sleep_refused(outfit: int, place: int, times: int) -> bytes:
+    """The controller at this place refuses sleep so many times, then all agree."""
+    trace = Trace(OF_OUTFIT[outfit])
+    for _ in range(times):
+        trace.go_to(Step.DOWN_CONTROLLERS_SLEEP)
+        trace.event(*answer_to(trace.open_requests[place], NOT_OK))
+        trace.tick()
+        trace.poll()
+    trace.go_to(Step.NO_COMMUNICATION)
+    trace.poll()
+    return trace.recorded()
+
+
+def refusal_taken_back() -> bytes:
+    """With partial networking: sleep refused, and agreed to before the tick: to step 13 and not 14."""
+    trace = Trace(OF_OUTFIT[Outfit.PARTIAL_NETWORKING])
+    trace.go_to(Step.DOWN_CONTROLLERS_SLEEP)
+    trace.event(*answer_to(trace.open_requests[0], NOT_OK))
+    trace.replied_tick()
+    trace.go_to(Step.NO_COMMUNICATION)
+    return trace.recorded()
+
+
+def answers_of_the_step_before(outfit: int) -> bytes:
+    """All the way down and up, what the step before asked for is reported once more after each tick."""
+    trace = Trace(OF_OUTFIT[outfit])
+    trace.want(Mode.FULL)
+    trace.tick()
+    while trace.network().step != Step.FULL:
+        before = trace.open_requests
+        trace.replied_tick()
+        for request in before:
+            trace.event(*answer_to(request))
+    return trace.recorded()
+
+
+def answer_cases() -> Iterator[Case]:
+    """Which answers count, and for how long."""
+    yield Case("ok, then refused: not done", last_answer_counts(OK, NOT_OK))
+    yield Case("refused, then ok: done", last_answer_counts(NOT_OK, OK))
+    yield Case("answers trickle in", answers_trickle_in())
+    yield Case("sleep refused, and taken back", refusal_taken_back())
+    for outfit, name in coverage.OUTFIT_NAMES.items():
+        yield Case(f"{name}, before the first tick", before_the_first_tick(outfit))
+        yield Case(f"{name}, sleep refused by the first", sleep_refused(outfit, 0, 1))
+        yield Case(f"{name}, sleep refused by the last, three times", sleep_refused(outfit, -1, 3))
+        yield Case(f"{name}, answers of the step before", answers_of_the_step_before(outfit))
+
+
+# ---------------------------------------------------------------------------
+# Requests, what is told, and numbers at their ends
+# ---------------------------------------------------------------------------
+
+
+def last_request_counts() -> bytes:
+    """Several requests between two ticks: only the last one counts, and none hands out anything."""
+    trace = Trace(BENCH)
+    trace.go_to(Step.NO_COMMUNICATION)
+    for modes in ([2, 0], [0, 2], [0, 2], [2, 0, 2], [1, 0, 2], [2, 1], [0, 1], [1, 2], [2, 1, 0], [2, 0]):
+        for mode in modes:
+            trace.want(mode)
+        trace.replied_tick()
+        trace.poll()
+    return trace.recorded()
+
+
+def full_wanted_while_going_down(outfit: int) -> bytes:
+    """Full is wanted again right after a shutdown began: the network goes down whole, and then up."""
+    trace = Trace(OF_OUTFIT[outfit])
+    trace.go_to(Step.FULL)
+    trace.want(Mode.NO)
+    trace.tick()
+    trace.poll()
+    trace.want(Mode.FULL)
+    trace.want(Mode.SILENT)
+    trace.go_to(Step.FULL_BEING_CHECKED)
+    trace.poll()
+    return trace.recorded()
+
+
+def told_while_stopping() -> bytes:
+    """Silent and not full is told while controllers are being stopped; no is told at the end."""
+    trace = Trace(OF_OUTFIT[Outfit.TRANSCEIVER])
+    trace.go_to(Step.FULL)
+    trace.poll()
+    trace.want(Mode.NO)
+    for _ in range(4):
+        trace.poll()
+        trace.replied_tick()
+    trace.poll()
+    return trace.recorded()
+
+
+def silent_and_back() -> bytes:
+    """Silent and full by turns; each return to full begins the ensure time anew."""
+    trace = Trace(OF_OUTFIT[Outfit.TRANSCEIVER])
+    for ticks in range(4):
+        trace.go_to(Step.SILENT)
+        trace.tick(ticks)
+        trace.poll()
+        trace.go_to(Step.FULL_BEING_CHECKED)
+        trace.tick(ticks)
+        trace.poll()
+    return trace.recorded()
+
+
+def tick_until(trace: Trace, step: int) -> None:
+    """Ticks without answers until the first network is in this step."""
+    while trace.network().step != step:
+        trace.tick()
+
+
+def times_above_a_byte() -> bytes:
+    """Short delay 258, long delay 259 and ensure time 257: each once to its end."""
+    trace = Trace(network(7, [3], times=(258, 259, 257)))
+    trace.go_to(Step.FULL_BEING_CHECKED)
+    for _ in range(2):
+        trace.bus_off()
+        trace.replied_tick(2)
+        tick_until(trace, Step.FULL_BEING_CHECKED)
+    tick_until(trace, Step.FULL)
+    return trace.recorded()
+
+
+def longest_times() -> bytes:
+    """All times 65,535: neither passed nor the end of the delay comes within 300 ticks."""
+    trace = Trace(network(7, [3], times=(65535, 65535, 65535), threshold=0))
+    trace.go_to(Step.FULL_BEING_CHECKED)
+    trace.tick(300)
+    trace.bus_off()
+    trace.replied_tick(300)
+    trace.poll()
+    return trace.recorded()
+
+
+def ids_at_their_ends() -> bytes:
+    """The least and the greatest handle, controllers and transceiver; ids of different kinds do not clash."""
+    trace = Trace(network(0, [31, 0], 0), network(255, [7, 1], 7, partial=1), network(7, [30, 2], 1))
+    up_together(trace)
+    for index in range(3):
+        trace.bus_off(index)
+        trace.poll(index)
+    trace.replied_tick(4)
+    return trace.recorded()
+
+
+def request_cases() -> Iterator[Case]:
+    """What is wanted, what is told, and numbers at their ends."""
+    yield Case("the last request counts", last_request_counts())
+    for outfit, name in coverage.OUTFIT_NAMES.items():
+        yield Case(f"{name}, full wanted while going down", full_wanted_while_going_down(outfit))
+    yield Case("told while stopping", told_while_stopping())
+    yield Case("silent and back", silent_and_back())
+    yield Case("times above a byte", times_above_a_byte())
+    yield Case("the longest times", longest_times())
+    yield Case("ids at their ends", ids_at_their_ends())
+
+
+# ---------------------------------------------------------------------------
+# Many networks
+# ---------------------------------------------------------------------------
+
+
+def want_of_all(trace: Trace, mode: int) -> None:
+    """The same request for every network."""
+    for index in range(len(trace.manager.networks)):
+        trace.want(mode, index)
+
+
+def poll_all(trace: Trace) -> None:
+    """A poll of every network."""
+    for index in range(len(trace.manager.networks)):
+        trace.poll(index)
+
+
+def up_together(trace: Trace) -> None:
+    """Full is wanted of all; replied ticks until all are there."""
+    want_of_all(trace, Mode.FULL)
+    while any(record.step not in FULL_STEPS for record in trace.manager.networks):
+        trace.replied_tick()
+
+
+def together(*networks: model.Settings) -> bytes:
+    """All up, a bus-off of each in turn, silent for every other one, all down."""
+    trace = Trace(*networks)
+    up_together(trace)
+    for index in range(len(networks)):
+        trace.bus_off(index)
+        trace.replied_tick()
+        poll_all(trace)
+    for index in range(0, len(networks), 2):
+        trace.want(Mode.SILENT, index)
+    trace.replied_tick(6)
+    poll_all(trace)
+    want_of_all(trace, Mode.NO)
+    trace.replied_tick(7)
+    poll_all(trace)
+    return trace.recorded()
+
+
+def one_after_the_other(*networks: model.Settings) -> bytes:
+    """At each tick full is wanted of one network more, then no; so they are in different steps at one tick."""
+    trace = Trace(*networks)
+    for mode in (Mode.FULL, Mode.NO):
+        for index in range(len(networks)):
+            trace.replied_tick()
+            trace.want(mode, index)
+    trace.replied_tick(2)
+    poll_all(trace)
+    return trace.recorded()
+
+
+def only_one_is_answered(chosen: int, *networks: model.Settings) -> bytes:
+    """Only what is asked of one network is answered; the others are asked again at each tick."""
+    trace = Trace(*networks)
+    settings = trace.network(chosen).settings
+    trace.want(Mode.FULL, chosen)
+    while trace.network(chosen).step != Step.FULL:
+        for request in trace.open_requests:
+            of_controllers = request[0] == model.Kind.CONTROLLER_MODE
+            if request[1] in (settings.controllers if of_controllers else [settings.transceiver]):
+                trace.event(*answer_to(request))
+        trace.tick()
+    trace.bus_off(chosen)
+    poll_all(trace)
+    return trace.recorded()
+
+
+def largest_ticks() -> bytes:
+    """The ticks that hand out most: all eight networks enter full, and all go down, on one tick."""
+    trace = Trace(*(network(n, list(range(4 * n, 4 * n + 4)), n, times=(1, 1, 1)) for n in range(Limit.NETWORKS)))
+    up_together(trace)
+    want_of_all(trace, Mode.NO)
+    trace.tick()
+    poll_all(trace)
+    return trace.recorded()
+
+
+def network_cases() -> Iterator[Case]:
+    """Two, three and eight networks; a call that names one network's ids changes no other network's record."""
+    bare, fitted, partial = OF_OUTFIT.values()
+    yield Case("two networks together", together(partial, bare))
+    yield Case("two networks of four controllers together", together(*LARGEST[:2]))
+    yield Case("two networks one after the other", one_after_the_other(fitted, partial))
+    yield Case("two networks, one is answered", only_one_is_answered(1, bare, fitted))
+    yield Case("three networks together", together(bare, fitted, partial))
+    yield Case("three networks one after the other", one_after_the_other(partial, bare, fitted))
+    yield Case("three networks, one is answered", only_one_is_answered(1, fitted, partial, bare))
+    yield Case("three networks of four controllers together", together(*LARGEST[:3]))
+    yield Case("eight networks together", together(*LARGEST))
+    yield Case("eight networks one after the other", one_after_the_other(*LARGEST))
+    yield Case("eight networks, the last is answered", only_one_is_answered(7, *LARGEST))
+    yield Case("the largest ticks", largest_ticks())
+    yield Case("the largest sheet alone", model.write_sheet(LARGEST), "config 0 8")
