@@ -1,12 +1,12 @@
 -- A refused call changes no record and no lent byte, and a call that names one network's ids changes no other network's record.
 -- Assumes nothing.
-use Prim.Native.Nat.{ℕ, _<_}
+use Prim.Native.Nat.{ℕ}
 use native.Mathlib.Omega.{arith}
-use mathlib.Core.Path.{_≡_, refl, sym, ap, _∙_}
+use mathlib.Core.Path.{_≡_, refl, sym, ap}
 use mathlib.Core.List.{List, _++_}
 use mathlib.Core.Bool.{Bool, true, false, cond}
 use lib.Dec.{eqb, leb, ltb}
-use lib.ListN.{length, getD, drop}
+use lib.ListN.{length, drop}
 use lib.Seq.{getD-set-other}
 use Rattle.records.specs.declared.Mode.{Mode}
 use Rattle.records.specs.Records.{bytes}
@@ -29,8 +29,8 @@ use Rattle.manager.specs.declared.Answer.{Answer}
 use Rattle.manager.specs.declared.Manager.{Manager}
 use Rattle.manager.specs.declared.Outcome.{Outcome}
 use Rattle.manager.specs.Manager.{settingsOf, blankState, networkAt, stateAt, withState, refused, accepted, tickNeeds}
-use Rattle.manager.specs.Calls.{byStage, afterReading, readOf, afterWriting, writeOf, writeBuffer, startOf, whenStarted, slotOf, bySlot, withMode, requestAt, requestOf, polled, pollOf, reportAt, answerAt, controllerAnswerOf, transceiverAt, transceiverModeOf, clearDoneOf, checkDoneOf, hitOutcome, bufferWith, busOffOf, slotBuffer, busOffBuffer, tickOf, tickBuffer}
-use Rattle.manager_theorems.specs.Careful.{isAccepted, Refuses, Careful, LeavesOthers}
+use Rattle.manager.specs.Calls.{byStage, afterReading, readOf, afterWriting, writeOf, writeBuffer, startOf, slotOf, bySlot, requestAt, requestOf, pollOf, reportAt, answerAt, controllerAnswerOf, transceiverAt, transceiverModeOf, clearDoneOf, checkDoneOf, hitOutcome, bufferWith, busOffOf, slotBuffer, busOffBuffer, tickOf, tickBuffer}
+use Rattle.manager_theorems.specs.Careful.{isAccepted, Careful, LeavesOthers}
 
 true-false : {A : Type 0} → true ≡ false → A
 true-false e = absurd (let z : _≡_ {A = ℕ} 0 1 = cc in omega arith)

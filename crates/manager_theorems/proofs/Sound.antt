@@ -59,14 +59,14 @@ each-past f (n ∷ ns) (s ∷ ss) (suc i) e h = each-past f ns ss i e (omega ari
 
 module _ (m : Manager) where
   -- the network of a slot in use
-  slot-network : (i : ℕ) → i < length (networksOf m) → getD (networksOf m) i blankNetwork ≡ networkAt m i
+  pub slot-network : (i : ℕ) → i < length (networksOf m) → getD (networksOf m) i blankNetwork ≡ networkAt m i
   slot-network i h = let t = length-take (m .count) (m .networks) in getD-take (m .count) (m .networks) i blankNetwork (omega arith)
 
-  slot-state : length (m .networks) ≡ 8 → length (m .states) ≡ 8 → (i : ℕ) → i < length (networksOf m) → i < length (m .states)
+  pub slot-state : length (m .networks) ≡ 8 → length (m .states) ≡ 8 → (i : ℕ) → i < length (networksOf m) → i < length (m .states)
   slot-state e f i h = let t = length-take (m .count) (m .networks) in omega arith
 
   -- a record that f gives, of the network and the record of its slot
-  each-slot : (f : Network → State → State) → length (m .networks) ≡ 8 → length (m .states) ≡ 8 → (i : ℕ) → i < length (networksOf m)
+  pub each-slot : (f : Network → State → State) → length (m .networks) ≡ 8 → length (m .states) ≡ 8 → (i : ℕ) → i < length (networksOf m)
       → getD (each f (networksOf m) (m .states)) i blankState ≡ f (networkAt m i) (stateAt m i)
   each-slot f e g i h = each-at f (networksOf m) (m .states) i blankNetwork blankState h (slot-state e g i h) ∙ ap (λ (n : Network). f n (stateAt m i)) (slot-network i h)
 

@@ -1,12 +1,12 @@
 -- What `Kept` says of a record is given by the start and kept by every call and every tick. Assumes nothing.
 use Prim.Native.Nat.{ℕ, zero, suc, _<_}
 use native.Mathlib.Omega.{arith}
-use mathlib.Core.Path.{_≡_, refl, sym, ap, subst, _∙_}
-use mathlib.Core.List.{List, [], _∷_, _++_}
+use mathlib.Core.Path.{_≡_, refl, sym, ap, _∙_}
+use mathlib.Core.List.{List}
 use mathlib.Core.Bool.{Bool, true, false, cond}
 use lib.Dec.{eqb}
-use lib.ListN.{length, take, set, replicate}
-use lib.Seq.{take-nil, length-take-le}
+use lib.ListN.{length, take, set}
+use lib.Seq.{take-nil}
 use Rattle.lists.specs.Lists.{first, padded}
 use Rattle.lists.proofs.Any.{first-below}
 use Rattle.lists.proofs.Parts.{padded-count, padded-store}
@@ -15,12 +15,12 @@ use Rattle.settings.specs.declared.Network.{Network}
 use Rattle.settings.specs.Settings.{controllersOf, member}
 use Rattle.settings.specs.Good.{InRange}
 use Rattle.steps.specs.declared.Step.{Step}
-use Rattle.steps.specs.declared.Step.the-variants.{NoCommunication, TransceiverNormal, ControllersStopped, ControllersStarted, Checking, Full, Restarting, Waiting, Silent, ClearWake, DownStopped, TransceiverStandby, ControllersSleep, CheckWake, CheckWakeAgain}
+use Rattle.steps.specs.declared.Step.the-variants.{Full, Silent, ClearWake, CheckWake}
+use Rattle.steps.specs.declared.Outfit.{Outfit}
 use Rattle.steps.specs.declared.Move.{Move}
-use Rattle.steps.specs.declared.Move.the-variants.{Stay, AskAgain, Count, EnterFull, EnterSilent, Pass, Wait, GoDown, EnterNoCommunication, Enter}
 use Rattle.steps.specs.declared.Ask.{Ask}
 use Rattle.steps.specs.Steps.{asksFor, isUp}
-use Rattle.steps.specs.Decision.{isOn}
+use Rattle.steps.specs.Decision.{decision}
 use Rattle.steps.specs.After.{firstDown, stepAfter}
 use Rattle.network.specs.declared.Answer.{Answer}
 use Rattle.network.specs.declared.Heard.{Heard}
@@ -199,19 +199,24 @@ start-kept n = record {
   slots = blank-slots (n .count);
 }
 
-pub tick-kept : (n : Network) (s : State) → Kept n s → Kept n (tickState n s)
-unfolding tickState afterMove moveOf
-tick-kept n s k =
-    let m = moveOf n s in
-    let form = by-move FormFits form-fits (s .step) (s .wanted) _ _ _ _ (n .partial) (s .asked) (s .reported) (s .answers) (λ f. (k .asked f, k .answers f, k .reported f)) in
+-- whatever a tick finds done, refused and reached
+pub move-kept : (n : Network) (s : State) (done refused reached : Bool) (outfit : Outfit) → Kept n s → Kept n (afterMove n s (decision (s .step) (s .wanted) done refused reached outfit))
+unfolding afterMove
+move-kept n s done refused reached outfit k =
+    let m = decision (s .step) (s .wanted) done refused reached outfit in
+    let form = by-move FormFits form-fits (s .step) (s .wanted) done refused reached outfit (n .partial) (s .asked) (s .reported) (s .answers) (λ f. (k .asked f, k .answers f, k .reported f)) in
     record {
-      told = by-move ToldFits told-fits (s .step) (s .wanted) _ _ _ _ (s .told) (n .partial) (k .told);
-      wanted = by-move WantedFits wanted-fits (s .step) (s .wanted) _ _ _ _ (n .partial) (k .wanted);
+      told = by-move ToldFits told-fits (s .step) (s .wanted) done refused reached outfit (s .told) (n .partial) (k .told);
+      wanted = by-move WantedFits wanted-fits (s .step) (s .wanted) done refused reached outfit (n .partial) (k .wanted);
       asked = λ f. form f .0;
       answers = λ f. form f .1;
       reported = λ f. form f .2;
       slots = slots-kept (n .count) (keepsAnswers m) (s .answers) (k .slots);
     }
+
+pub tick-kept : (n : Network) (s : State) → Kept n s → Kept n (tickState n s)
+unfolding tickState moveOf
+tick-kept n s k = move-kept n s _ _ _ _ k
 
 pub want-kept : (n : Network) (s : State) (mode : Mode) → mayWant (s .step) mode ≡ true → Kept n s → Kept n (wants s mode)
 unfolding wants

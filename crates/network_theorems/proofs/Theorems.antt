@@ -3,8 +3,7 @@ use Prim.Native.Nat.{ℕ, _+_, _≤_, _<_}
 use native.Mathlib.Omega.{arith}
 use borrow.Author.Tests.{lt-ltb, le-ltb}
 use mathlib.Core.Path.{_≡_, refl, sym, ap, _∙_}
-use mathlib.Core.List.{List}
-use mathlib.Core.Bool.{Bool, true, false}
+use mathlib.Core.Bool.{true, false}
 use lib.ListN.{length}
 use Rattle.lists.specs.Lists.{every}
 use Rattle.lists.proofs.Parts.{padded-count}
@@ -14,8 +13,7 @@ use Rattle.settings.specs.Settings.{controllersOf}
 use Rattle.settings.specs.Good.{InRange}
 use Rattle.steps.specs.declared.Step.{Step}
 use Rattle.steps.specs.declared.Move.{Move}
-use Rattle.steps.specs.Steps.{isUp}
-use Rattle.handing.specs.Handing.{ownRecord, recovery}
+use Rattle.handing.specs.Handing.{ownRecord}
 use Rattle.handing.proofs.Laws.{length-move, move-own, recovery-own}
 use Rattle.network.specs.declared.Hit.{Hit}
 use Rattle.network.specs.declared.State.{State}

@@ -4,7 +4,7 @@ use Prim.Native.Nat.{ℕ}
 use mathlib.Core.Path.{_≡_, refl}
 use mathlib.Core.List.{List, [], _∷_, _++_, map}
 use mathlib.Core.Bool.{Bool, true, false}
-use Rattle.lists.specs.Lists.{any, every, padded}
+use Rattle.lists.specs.Lists.{any, every}
 use Rattle.records.specs.declared.Record.{Record}
 use Rattle.records.specs.declared.Mode.{Mode}
 use Rattle.records.specs.Records.{handed}

@@ -1,6 +1,5 @@
 -- What holds of every network's record from the start on: "A network is said to be full while the mode last told by kind 6 is full", which is
 -- in steps 4 and 5; silent is wanted only in steps 4 to 8; and a record has one form.
-use Prim.Native.Nat.{ℕ}
 use mathlib.Core.Path.{_≡_}
 use mathlib.Core.Bool.{Bool, true, false}
 use Rattle.lists.specs.Lists.{padded}

@@ -1,15 +1,14 @@
 -- Where the events begin, by the field that stands at a place. Assumes nothing.
-use Prim.Native.Nat.{ℕ, zero, suc, _+_, _-_, _≤_, _<_}
+use Prim.Native.Nat.{ℕ, zero, suc, _-_, _≤_, _<_}
 use native.Mathlib.Omega.{arith}
-use borrow.Author.Tests.{lt-ltb, le-ltb}
-use mathlib.Core.Path.{_≡_, refl, sym, ap, _∙_}
+use mathlib.Core.Path.{_≡_, refl, ap}
 use mathlib.Core.List.{List}
 use mathlib.Core.Bool.{Bool, true, false, cond}
 use lib.Dec.{ltb}
-use lib.ListN.{length, take, drop}
+use lib.ListN.{length, drop}
 use Rattle.fields.specs.declared.Field.{Field}
 use Rattle.fields.specs.declared.Field.the-variants.{End, Stub, Overrun, Whole}
-use Rattle.fields.specs.Fields.{Row, front, rowAt}
+use Rattle.fields.specs.Fields.{front}
 use Rattle.fields.proofs.Laws.{row-end, row-stub, row-overrun, row-further}
 use Rattle.trace.specs.Splitting.{firstEvent, eventsIn, eventsFrom}
 

@@ -2,18 +2,17 @@
 use Prim.Native.Nat.{ℕ, zero, suc, _+_, _-_, _≤_, _<_}
 use native.Mathlib.Omega.{arith}
 use borrow.Author.Tests.{lt-ltb, le-ltb}
-use mathlib.Core.Path.{_≡_, refl, sym, ap, subst, _∙_}
+use mathlib.Core.Path.{_≡_, refl, sym, ap, subst}
 use mathlib.Core.List.{List, [], _∷_, _++_}
 use mathlib.Core.Bool.{Bool, true, false, cond}
-use lib.Dec.{eqb, ltb}
+use lib.Dec.{eqb}
 use lib.ListN.{length, take, drop, length-drop}
 use Rattle.fields.specs.declared.Field.{Field}
 use Rattle.fields.specs.declared.Field.the-variants.{Stub, Overrun, Whole}
-use Rattle.fields.specs.Fields.{Row, field, front, rowAt}
+use Rattle.fields.specs.Fields.{Row, front, rowAt}
 use Rattle.fields.proofs.Laws.{Lies, front-lies, row-end, row-stub, row-overrun, row-further}
 use Rattle.entries.specs.Entries.{nextOf}
 use Rattle.manager.specs.declared.Manager.{Manager}
-use Rattle.manager.specs.declared.Outcome.{Outcome}
 use Rattle.manager.specs.Manager.{answerNumber}
 use Rattle.trace.specs.declared.Event.{Event}
 use Rattle.trace.specs.declared.Item.{Item}
@@ -21,7 +20,7 @@ use Rattle.trace.specs.Splitting.{eventsFrom}
 use Rattle.trace.specs.Events.{sized, eventOf, itemOf, itemAt, outcomeOf}
 use Rattle.trace.specs.Lines.{stopLine, eventLine, tooLong}
 use Rattle.trace.specs.Trace.{itemLine, itemManager, itemNext, lineAt, managerAt, nextAt, readingOf, firstLine, firstManager, firstNext, decoded, decodedItem, ending, endingItem, runLines, eventLines, linesAfter, traceOf, Prints, over, more}
-use Rattle.trace.proofs.EventLaws.{itemFrom, item-from}
+use Rattle.trace.proofs.EventLaws.{item-from}
 
 -- ---- a whole field is an event or bad
 pub data Decided : Item → Type 0 where

@@ -5,7 +5,6 @@ use mathlib.Core.Bool.{Bool, true, false, cond}
 use Rattle.text.specs.Text.{blank, newline, decimal, recordsText, recordsAt}
 use Rattle.manager.specs.declared.Answer.{Answer}
 use Rattle.manager.specs.declared.Manager.{Manager}
-use Rattle.manager.specs.declared.Outcome.{Outcome}
 use Rattle.manager.specs.Manager.{answerNumber}
 use Rattle.trace.specs.declared.Event.{Event}
 use Rattle.trace.specs.Events.{outcomeOf, bufferOf}

@@ -1,0 +1,6 @@
+pub mod Answers
+pub mod View
+pub mod Bench
+pub mod Demands
+pub mod WrongBoxes
+pub mod Histories

@@ -1,0 +1,7 @@
+pub mod Views
+pub mod Handed
+pub mod First
+pub mod Meaning
+pub mod Second
+pub mod Slots
+pub mod Third

@@ -1,0 +1,390 @@
+-- Demand 3, second sentence: after a bus-off while up, the right delay and two ticks have passed before full is told again. First, what a network's
+-- record keeps of a history. Assumes nothing.
+use Prim.Native.Nat.{ℕ, suc, _+_, _≤_, min}
+use native.Mathlib.Omega.{arith}
+use borrow.Author.Tests.{ltb-true, ltb-false, leb-true, lt-ltb, le-ltb}
+use mathlib.Core.Path.{_≡_, refl, sym, ap, subst, _∙_}
+use mathlib.Core.List.{[], _∷_, _++_}
+use mathlib.Core.Bool.{Bool, true, false, cond, _&&_, and-false, false≢true, true≢false}
+use lib.Dec.{leb, ltb, eqb}
+use Rattle.lists.specs.Lists.{any}
+use Rattle.lists.proofs.Any.{or-false, any-append-left, any-append-right}
+use Rattle.records.specs.declared.PduMode.{PduMode}
+use Rattle.records.specs.declared.Mode.{Mode}
+use Rattle.records.specs.declared.Notice.{Notice}
+use Rattle.records.specs.Records.{modeNumber}
+use Rattle.settings.specs.declared.Network.{Network}
+use Rattle.steps.specs.declared.Step.{Step}
+use Rattle.steps.specs.declared.Step.the-variants.{NoCommunication, TransceiverNormal, ControllersStopped, ControllersStarted, Checking, Full, Restarting, Waiting, Silent, ClearWake, DownStopped, TransceiverStandby, ControllersSleep, CheckWake, CheckWakeAgain}
+use Rattle.steps.specs.declared.Outfit.{Outfit}
+use Rattle.steps.specs.declared.Move.{Move}
+use Rattle.steps.specs.declared.Move.the-variants.{Stay, AskAgain, Count, EnterFull, EnterSilent, Pass, Wait, GoDown, EnterNoCommunication, Enter}
+use Rattle.steps.specs.Steps.{asksFor}
+use Rattle.steps.specs.Decision.{decision}
+use Rattle.steps.specs.After.{stepAfter, risen}
+use Rattle.handing.specs.Handing.{enteringFull, enteringSilent, downNotices, moveRecords, recovery}
+use Rattle.network.specs.declared.State.{State}
+use Rattle.network.specs.State.{started}
+use Rattle.network.specs.Rules.{isDone, isLong, delayOf, reachedBy}
+use Rattle.network.specs.Moving.{toldAfter, countAfter, asksAfter, afterMove}
+use Rattle.network.specs.BusOff.{raised}
+use Rattle.network_demands.specs.Calls.{Call, busOff, tick, Entry, History}
+use Rattle.network_demands.specs.Words.{is, since, never, tally, isBusOff, isRequest, modeAsked, ticked, fell, fellUp, shut, cleared, toldBy, told, wanted, delayAt, Delayed}
+use Rattle.network_demands.specs.Own.{Part, partOf, stateOf, Ran, Fit, recoveredPart, tickPart, finished, decides}
+use Rattle.network_demands.proofs.Views.{split, entry, as-ruled, Plain, plainPart, by-part}
+use Rattle.network_demands.proofs.Handed.{eqb-same, isGoDown, requests-hand-none, pdu-hands-none, entering-hands, going-down-hands, move-tells, move-shuts}
+
+-- ---- what is said of every entry is said of the first and of the rest
+pub never-first : (p : Entry → Bool) (e : Entry) (h : History) → never p (e ∷ h) → p e ≡ false
+unfolding any
+never-first p e h f = sym (or-false (p e)) ∙ any-append-left p (e ∷ []) h f
+
+pub never-rest : (p : Entry → Bool) (e : Entry) (h : History) → never p (e ∷ h) → never p h
+never-rest p e h f = any-append-right p (e ∷ []) h f
+
+-- ---- the all-clear and the bus-off while up, in the records
+abbrev isPass : Move → Bool
+isPass Stay = false
+isPass AskAgain = false
+isPass Count = false
+isPass EnterFull = false
+isPass EnterSilent = false
+isPass Pass = true
+isPass Wait = false
+isPass GoDown = false
+isPass EnterNoCommunication = false
+isPass (Enter next) = false
+
+-- going down hands out no 8 passed
+notices-clear-not : (n : Network) (told : Mode) → any (is 8 (n .handle) 0) (downNotices (n .handle) told) ≡ false
+unfolding any downNotices
+notices-clear-not n Mode.No = refl
+notices-clear-not n Mode.Silent = refl
+notices-clear-not n Mode.Full = refl
+
+-- 8 passed is handed out by the move at the ensure time, and by no other
+move-clears : (n : Network) (step : Step) (told : Mode) (m : Move) → any (is 8 (n .handle) 0) (moveRecords n step told m) ≡ isPass m
+unfolding any moveRecords enteringFull enteringSilent
+move-clears n step told Stay = refl
+move-clears n step told AskAgain = requests-hand-none n 8 (n .handle) 0 (omega arith) (asksFor step)
+move-clears n step told Count = refl
+move-clears n step told EnterFull = entering-hands n 8 (n .handle) 0 (omega arith) PduMode.Online Mode.Full Notice.Full
+move-clears n step told EnterSilent = entering-hands n 8 (n .handle) 0 (omega arith) PduMode.TxOffline Mode.Silent Notice.Silent
+move-clears n step told Pass = rw (eqb-same (n .handle)) refl
+move-clears n step told Wait = pdu-hands-none n 8 (n .handle) 0 (omega arith) PduMode.TxOffline
+move-clears n step told GoDown = going-down-hands n 8 (n .handle) 0 (omega arith) told ∙ notices-clear-not n told
+move-clears n step told EnterNoCommunication = refl
+move-clears n step told (Enter next) = requests-hand-none n 8 (n .handle) 0 (omega arith) (asksFor next)
+
+-- a bus-off while up tells silent, hands out 7 bus-off, and no 8 passed
+recovery-tells : (n : Network) (mode : ℕ) → toldBy n (recovery (n .handle)) mode ≡ 1
+unfolding toldBy recovery
+recovery-tells n mode = rw (eqb-same (n .handle)) refl
+
+recovery-notes : (n : Network) → any (is 7 (n .handle) 3) (recovery (n .handle)) ≡ true
+unfolding any recovery
+recovery-notes n = rw (eqb-same (n .handle)) refl
+
+recovery-clears-not : (n : Network) → any (is 8 (n .handle) 0) (recovery (n .handle)) ≡ false
+unfolding any recovery
+recovery-clears-not n = refl
+
+-- ---- the bus-offs while up since the last all-clear
+abbrev pub falls : Network → History → ℕ
+falls n h = tally (fellUp n) (since (cleared n) h)
+
+-- an entry that is no all-clear and no bus-off while up leaves their number alone
+falls-same : (n : Network) (e : Entry) (h : History) → cleared n e ≡ false → fellUp n e ≡ false → falls n (e ∷ h) ≡ falls n h
+unfolding since tally
+falls-same n e h p q = rw (p, q) refl
+
+-- a bus-off while up is one more
+falls-more : (n : Network) (e : Entry) (h : History) → cleared n e ≡ false → fellUp n e ≡ true → falls n (e ∷ h) ≡ suc (falls n h)
+unfolding since tally
+falls-more n e h p q = rw (p, q) refl
+
+-- after the all-clear there is none
+falls-none : (n : Network) (e : Entry) (h : History) → cleared n e ≡ true → falls n (e ∷ h) ≡ 0
+unfolding since tally
+falls-none n e h p = rw p refl
+
+-- one more, and both stay at 255
+raised-min : (k f : ℕ) → k ≡ min f 255 → raised k ≡ min (suc f) 255
+raised-min k f e = split (λ (x : ℕ). x ≡ min (suc f) 255) (ltb k 255) (λ l. omega (arith, ltb-true k 255 l)) (λ l. omega (arith, ltb-false k 255 l))
+
+-- ---- the record's count stands for the true number: no threshold tells them apart
+pub count-compares : (threshold f : ℕ) → threshold ≤ 254 → isLong threshold (min f 255) ≡ ltb threshold f
+count-compares threshold f h = by-test (ltb threshold f) refl
+  where
+    by-test : (t : Bool) → ltb threshold f ≡ t → ltb threshold (min f 255) ≡ ltb threshold f
+    by-test true e = lt-ltb threshold (min f 255) (omega (arith, ltb-true threshold f e)) ∙ sym e
+    by-test false e = le-ltb threshold (min f 255) (omega (arith, ltb-false threshold f e)) ∙ sym e
+
+-- so the delay by the record's count is the delay by the true number
+pub delay-compares : (n : Network) → Fit n → (f : ℕ) → delayOf n (min f 255) ≡ cond (ltb (n .threshold) f) (n .long) (n .short)
+unfolding delayOf
+delay-compares n fit f = ap (λ (b : Bool). cond b (n .long) (n .short)) (count-compares (n .threshold) f (fit .threshold))
+
+-- ---- what a network's record keeps of a history
+pub record Follows (n : Network) (s : State) (h : History) : Type 0 where
+  pub count : s .count ≡ min (falls n h) 255
+  pub wanted : modeNumber (s .wanted) ≡ wanted n h
+  pub told : modeNumber (s .told) ≡ told n h
+
+-- and still keeps after a call
+abbrev pub StillFollows : Network → History → Call → Part → Type 0
+StillFollows n h call part = (mode : ℕ) → Follows n (part .state) (entry call mode part ∷ h)
+
+-- only passed makes the count 0
+count-by : (m : Move) (count : ℕ) → countAfter m count ≡ cond (isPass m) 0 count
+count-by Stay count = refl
+count-by AskAgain count = refl
+count-by Count count = refl
+count-by EnterFull count = refl
+count-by EnterSilent count = refl
+count-by Pass count = refl
+count-by Wait count = refl
+count-by GoDown count = refl
+count-by EnterNoCommunication count = refl
+count-by (Enter next) count = refl
+
+module _ (n : Network) (h : History) (s : State) (k : Follows n s h) where
+  -- the count over an entry that leaves it alone, and over a tick
+  count-same : (e : Entry) → cleared n e ≡ false → fellUp n e ≡ false → s .count ≡ min (falls n (e ∷ h)) 255
+  count-same e p q = k .count ∙ ap (λ (x : ℕ). min x 255) (sym (falls-same n e h p q))
+
+  count-tick : (e : Entry) (b : Bool) → cleared n e ≡ b → fellUp n e ≡ false → cond b 0 (s .count) ≡ min (falls n (e ∷ h)) 255
+  count-tick e true p q = ap (λ (x : ℕ). min x 255) (sym (falls-none n e h p))
+  count-tick e false p q = count-same e p q
+
+  -- the record follows the history over a call that hands out nothing, over a bus-off while up, over a tick
+  follows-plain : (call : Call) (number : ℕ) (mode : Mode) (reported : Bool) → Plain n s call number mode reported → StillFollows n h call (plainPart s number mode reported)
+  unfolding any told toldBy wanted
+  follows-plain call number mode reported p polled = record {
+    count = count-same (entry call polled (plainPart s number mode reported)) refl (and-false (isBusOff n call));
+    wanted = p .wanted ∙ ap (cond (isRequest n call && eqb 0 number) (modeAsked call)) (k .wanted);
+    told = k .told;
+  }
+
+  follows-fall : (c room : ℕ) → isBusOff n (busOff c room) ≡ true → StillFollows n h (busOff c room) (recoveredPart n s)
+  unfolding told wanted
+  follows-fall c room e polled =
+      let b : Entry = entry (busOff c room) polled (recoveredPart n s) in
+      record {
+        count = raised-min (s .count) (falls n h) (k .count)
+            ∙ ap (λ (x : ℕ). min x 255) (sym (falls-more n b h (recovery-clears-not n) (rw (e, recovery-notes n) refl)));
+        wanted = k .wanted;
+        told = sym (recovery-tells n (told n h));
+      }
+
+  follows-tick : (room : ℕ) → StillFollows n h (tick room) (tickPart n s)
+  unfolding told wanted afterMove
+  follows-tick room polled =
+      let m : Move = decides n s in
+      record {
+        count = count-by m (s .count) ∙ count-tick (entry (tick room) polled (tickPart n s)) (isPass m) (move-clears n (s .step) (s .told) m) refl;
+        wanted = k .wanted;
+        told = sym (move-tells n (s .step) (s .told) m) ∙ ap (toldBy n (moveRecords n (s .step) (s .told) m)) (k .told);
+      }
+
+  -- and over a bus-off that changes neither of the three
+  follows-quiet : (c room number : ℕ) (t : State) → t .count ≡ s .count → t .wanted ≡ s .wanted → t .told ≡ s .told
+      → StillFollows n h (busOff c room) (record { number = number; records = []; state = t })
+  unfolding any told toldBy wanted
+  follows-quiet c room number t p q r polled = record {
+    count = p ∙ count-same (entry (busOff c room) polled (record { number = number; records = []; state = t })) refl (and-false (isBusOff n (busOff c room)));
+    wanted = ap modeNumber q ∙ k .wanted;
+    told = ap modeNumber r ∙ k .told;
+  }
+
+  -- the record follows the history over every call
+  pub follows-call : (needs : ℕ) (call : Call) → StillFollows n h call (partOf needs n s call)
+  unfolding any told toldBy wanted
+  follows-call needs = by-part needs n s (StillFollows n h) (record {
+    plain = follows-plain;
+    hears = λ c mode ok m l e polled. record { count = count-same _ refl refl; wanted = k .wanted; told = k .told };
+    recovers = λ c room e u. follows-fall c room e;
+    restarts = λ c room e u. follows-quiet c room 0 _ refl refl refl;
+    not-taken = λ c room e u v. follows-quiet c room 0x22 s refl refl refl;
+    ticks = λ room e. follows-tick room;
+  })
+
+-- from the start on the record follows the history: its count is the number of bus-offs while up since the last all-clear, up to 255, its wanted mode the
+-- mode last wanted, its told mode the mode last told
+pub follows : (needs : ℕ) (n : Network) (h : History) → Ran needs n h → Follows n (stateOf needs n h) h
+unfolding stateOf Ran started since tally told wanted
+follows needs n [] r = record { count = refl; wanted = refl; told = refl }
+follows needs n (e ∷ h) r =
+    subst (λ (x : Entry). Follows n (partOf needs n (stateOf needs n h) (e .call) .state) (x ∷ h)) (as-ruled needs n (stateOf needs n h) e (r .0))
+    (follows-call n h (stateOf needs n h) (follows needs n h (r .1)) needs (e .call) (e .mode))
+
+-- each of them by itself
+pub count-follows : (needs : ℕ) (n : Network) (h : History) → Ran needs n h → stateOf needs n h .count ≡ min (tally (fellUp n) (since (cleared n) h)) 255
+count-follows needs n h r = follows needs n h r .count
+
+pub wanted-follows : (needs : ℕ) (n : Network) (h : History) → Ran needs n h → modeNumber (stateOf needs n h .wanted) ≡ wanted n h
+wanted-follows needs n h r = follows needs n h r .wanted
+
+pub told-follows : (needs : ℕ) (n : Network) (h : History) → Ran needs n h → modeNumber (stateOf needs n h .told) ≡ told n h
+told-follows needs n h r = follows needs n h r .told
+
+-- ---- where the network stands after a bus-off while up, with no bus-off and no shutdown since, d being the delay and k the ticks since
+abbrev Late : Network → ℕ → Step → Mode → Bool → ℕ → ℕ → Type 0
+Late n d NoCommunication told asked count k = ⊥
+Late n d TransceiverNormal told asked count k = ⊥
+Late n d ControllersStopped told asked count k = ⊥
+Late n d ControllersStarted told asked count k = ⊥
+Late n d (Checking t) told asked count k = d + 2 ≤ k
+Late n d Full told asked count k = d + 2 ≤ k
+Late n d Restarting told asked count k = (delayOf n count ≡ d) × (modeNumber told ≡ 1) × (asked ≡ true → 1 ≤ k)
+Late n d (Waiting t) told asked count k = (delayOf n count ≡ d) × (modeNumber told ≡ 1) × (t + 2 ≤ k)
+Late n d Silent told asked count k = d + 2 ≤ k
+Late n d ClearWake told asked count k = ⊥
+Late n d DownStopped told asked count k = ⊥
+Late n d TransceiverStandby told asked count k = ⊥
+Late n d ControllersSleep told asked count k = ⊥
+Late n d CheckWake told asked count k = ⊥
+Late n d CheckWakeAgain told asked count k = ⊥
+
+abbrev LateState : Network → ℕ → State → ℕ → Type 0
+LateState n d s k = Late n d (s .step) (s .told) (s .asked) (s .count) k
+
+-- the delay after a bus-off while up is the one that the bus-off brings
+pub delay-begins : (n : Network) → Fit n → (h : History) (s : State) → Follows n s h → (c room : ℕ) → isBusOff n (busOff c room) ≡ true → (mode : ℕ)
+    → delayOf n (raised (s .count)) ≡ delayAt n (entry (busOff c room) mode (recoveredPart n s) ∷ h)
+delay-begins n fit h s k c room e mode = ap (delayOf n) (follows-fall n h s k c room e mode .count) ∙ delay-compares n fit _
+
+-- whatever holds of a network that recovers holds after every bus-off while up
+pub fell-up-recovers : (needs : ℕ) (n : Network) (s : State) (P : Call → Part → Type 0)
+    → ((c room : ℕ) → isBusOff n (busOff c room) ≡ true → P (busOff c room) (recoveredPart n s))
+    → (call : Call) (mode : ℕ) → fellUp n (entry call mode (partOf needs n s call)) ≡ true → P call (partOf needs n s call)
+unfolding any
+fell-up-recovers needs n s P p = by-part needs n s (λ call part. (mode : ℕ) → fellUp n (entry call mode part) ≡ true → P call part) (record {
+  plain = λ call number wanted reported q mode f. absurd (false≢true (sym (and-false (isBusOff n call)) ∙ f));
+  hears = λ c asked ok m l e mode f. absurd (false≢true f);
+  recovers = λ c room e u mode f. p c room e;
+  restarts = λ c room e u mode f. absurd (false≢true (sym (and-false (isBusOff n (busOff c room))) ∙ f));
+  not-taken = λ c room e u v mode f. absurd (false≢true (sym (and-false (isBusOff n (busOff c room))) ∙ f));
+  ticks = λ room e mode f. absurd (false≢true f);
+})
+
+-- done means asked
+pub done-asked : (n : Network) (s : State) → isDone n s ≡ true → s .asked ≡ true
+unfolding isDone
+done-asked n s = by-test (s .asked) _
+  where
+    by-test : (b x : Bool) → cond b x false ≡ true → b ≡ true
+    by-test true x e = refl
+    by-test false x e = absurd (false≢true e)
+
+-- a tick count rises by one at most
+risen-most : (t : ℕ) → risen t ≤ t + 1
+risen-most t = split (λ (x : ℕ). x ≤ t + 1) (ltb t 65535) (λ _. omega arith) (λ _. omega arith)
+
+-- what a move makes of where the network stands
+abbrev LateAfter : Network → ℕ → Step → Mode → Bool → ℕ → ℕ → Move → Type 0
+LateAfter n d step told asked count k m =
+    isGoDown m ≡ false → Late n d (stepAfter m step (n .partial)) (toldAfter m told) (asksAfter m asked) (countAfter m count) (suc k)
+
+module _ (n : Network) (d k count : ℕ) (told : Mode) (asked done refused : Bool) (outfit : Outfit) (done-means : done ≡ true → asked ≡ true) where
+  -- a tick that goes down begins a shutdown
+  down : {A : Type 0} → isGoDown GoDown ≡ false → A
+  down e = absurd (true≢false e)
+
+  -- in step 6 a tick finds all done, once asked, or asks again; in step 7 it counts, up to the delay
+  late-restarting : Late n d Restarting told asked count k → LateAfter n d Restarting told asked count k (cond done Wait AskAgain)
+  late-restarting l = split (LateAfter n d Restarting told asked count k) done (λ e _. (l .0, l .1, omega (arith, l .2 (done-means e)))) (λ _ _. (l .0, l .1, λ _. omega arith))
+
+  late-waiting : (t : ℕ) (m : Move) → Late n d (Waiting t) told asked count k → (delayOf n count ≤ t + 1 → LateAfter n d (Waiting t) told asked count k m)
+      → LateAfter n d (Waiting t) told asked count k (cond (leb (delayOf n count) (t + 1)) m Count)
+  late-waiting t m l f = split (LateAfter n d (Waiting t) told asked count k) (leb (delayOf n count) (t + 1)) (λ e. f (leb-true (delayOf n count) (t + 1) e))
+      (λ _ _. (l .0, l .1, omega (arith, l .2, risen-most t)))
+
+  -- a tick that does not go down
+  late-move : (step : Step) (wanted : Mode) → Late n d step told asked count k
+      → LateAfter n d step told asked count k (decision step wanted done refused (reachedBy step (n .ensure) (delayOf n count)) outfit)
+  unfolding decision
+  late-move NoCommunication wanted l = absurd l
+  late-move TransceiverNormal wanted l = absurd l
+  late-move ControllersStopped wanted l = absurd l
+  late-move ControllersStarted wanted l = absurd l
+  late-move (Checking t) Mode.No l = down
+  late-move (Checking t) Mode.Silent l = λ _. omega arith
+  late-move (Checking t) Mode.Full l = split (LateAfter n d (Checking t) told asked count k) (leb (n .ensure) (t + 1)) (λ _ _. omega arith) (λ _ _. omega arith)
+  late-move Full Mode.No l = down
+  late-move Full Mode.Silent l = λ _. omega arith
+  late-move Full Mode.Full l = λ _. omega arith
+  late-move Restarting Mode.No l = down
+  late-move Restarting Mode.Silent l = late-restarting l
+  late-move Restarting Mode.Full l = late-restarting l
+  late-move (Waiting t) Mode.No l = down
+  late-move (Waiting t) Mode.Silent l = late-waiting t EnterSilent l (λ e _. omega (arith, e, l .0, l .2))
+  late-move (Waiting t) Mode.Full l = late-waiting t EnterFull l (λ e _. omega (arith, e, l .0, l .2))
+  late-move Silent Mode.No l = down
+  late-move Silent Mode.Silent l = λ _. omega arith
+  late-move Silent Mode.Full l = λ _. omega arith
+  late-move ClearWake wanted l = absurd l
+  late-move DownStopped wanted l = absurd l
+  late-move TransceiverStandby wanted l = absurd l
+  late-move ControllersSleep wanted l = absurd l
+  late-move CheckWake wanted l = absurd l
+  late-move CheckWakeAgain wanted l = absurd l
+
+-- it stands so over every call that is no bus-off and no shutdown
+late-call : (needs : ℕ) (n : Network) (d : ℕ) (h : History) (s : State) → LateState n d s (tally ticked h) → (call : Call) (mode : ℕ)
+    → fell n (entry call mode (partOf needs n s call)) ≡ false → shut n (entry call mode (partOf needs n s call)) ≡ false
+    → LateState n d (partOf needs n s call .state) (tally ticked (entry call mode (partOf needs n s call) ∷ h))
+unfolding tally afterMove
+late-call needs n d h s l = by-part needs n s
+    (λ call part. (mode : ℕ) → fell n (entry call mode part) ≡ false → shut n (entry call mode part) ≡ false → LateState n d (part .state) (tally ticked (entry call mode part ∷ h)))
+    (record {
+      plain = λ call number wanted reported p mode _ _. rw (p .tick) l;
+      hears = λ c asked ok m v e mode _ _. l;
+      recovers = λ c room e u mode f _. absurd (true≢false (sym e ∙ f));
+      restarts = λ c room e u mode f _. absurd (true≢false (sym e ∙ f));
+      not-taken = λ c room e u v mode f _. absurd (true≢false (sym e ∙ f));
+      ticks = λ room e mode _ z. late-move n d (tally ticked h) (s .count) (s .told) (s .asked) (finished n s) _ _ (done-asked n s) (s .step) (s .wanted) l
+          (sym (move-shuts n (s .step) (s .told) (decides n s)) ∙ z);
+    })
+
+module _ (needs : ℕ) (n : Network) (fit : Fit n) (b : Entry) (h : History) (u : fellUp n b ≡ true) where
+  -- from the bus-off on
+  late : (s : History) → Ran needs n (s ++ (b ∷ h)) → never (fell n) s → never (shut n) s
+      → LateState n (delayAt n (b ∷ h)) (stateOf needs n (s ++ (b ∷ h))) (tally ticked s)
+  unfolding stateOf Ran tally
+  late [] r f z =
+      let t = stateOf needs n h in
+      subst (λ (x : Entry). LateState n (delayAt n (x ∷ h)) (partOf needs n t (b .call) .state) 0) (as-ruled needs n t b (r .0))
+      (fell-up-recovers needs n t (λ call part. LateState n (delayAt n (entry call (b .mode) part ∷ h)) (part .state) 0)
+      (λ c room e. (delay-begins n fit h t (follows needs n h (r .1)) c room e (b .mode), refl, λ q. absurd (false≢true q)))
+      (b .call) (b .mode) (subst (λ (x : Entry). fellUp n x ≡ true) (sym (as-ruled needs n t b (r .0))) u))
+  late (e ∷ s) r f z =
+      let t = stateOf needs n (s ++ (b ∷ h)) in
+      subst (λ (x : Entry). fell n x ≡ false → shut n x ≡ false → LateState n (delayAt n (b ∷ h)) (partOf needs n t (e .call) .state) (tally ticked (x ∷ s)))
+      (as-ruled needs n t e (r .0))
+      (late-call needs n (delayAt n (b ∷ h)) s t (late s (r .1) (never-rest (fell n) e s f) (never-rest (shut n) e s z)) (e .call) (e .mode))
+      (never-first (fell n) e s f) (never-first (shut n) e s z)
+
+-- full is told only where the delay and two ticks have passed
+late-full : (n : Network) (d k : ℕ) (step : Step) (told : Mode) (asked : Bool) (count : ℕ) → Late n d step told asked count k → modeNumber told ≡ 2 → d + 2 ≤ k
+late-full n d k NoCommunication told asked count l e = absurd l
+late-full n d k TransceiverNormal told asked count l e = absurd l
+late-full n d k ControllersStopped told asked count l e = absurd l
+late-full n d k ControllersStarted told asked count l e = absurd l
+late-full n d k (Checking t) told asked count l e = l
+late-full n d k Full told asked count l e = l
+late-full n d k Restarting told asked count l e = absurd (omega (arith, l .1))
+late-full n d k (Waiting t) told asked count l e = absurd (omega (arith, l .1))
+late-full n d k Silent told asked count l e = l
+late-full n d k ClearWake told asked count l e = absurd l
+late-full n d k DownStopped told asked count l e = absurd l
+late-full n d k TransceiverStandby told asked count l e = absurd l
+late-full n d k ControllersSleep told asked count l e = absurd l
+late-full n d k CheckWake told asked count l e = absurd l
+late-full n d k CheckWakeAgain told asked count l e = absurd l
+
+-- demand 3, second sentence, of one network
+pub second-sentence : (needs : ℕ) (n : Network) → Fit n → (s : History) (b : Entry) (h : History) → Ran needs n (s ++ (b ∷ h)) → Delayed n s b h
+second-sentence needs n fit s b h r u f z t =
+    let w = stateOf needs n (s ++ (b ∷ h)) in
+    late-full n (delayAt n (b ∷ h)) (tally ticked s) (w .step) (w .told) (w .asked) (w .count) (late needs n fit b h u s r f z) (told-follows needs n (s ++ (b ∷ h)) r ∙ t)
