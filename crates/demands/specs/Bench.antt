@@ -1,4 +1,4 @@
--- The bench cases B1 to B12 of document 01, section "Bench cases", and its whole case, as a single list under a single statement about the definitions, by
+-- The bench cases B1 to B12 of document 01, section "Bench cases", as a single list under a single statement about the definitions, by
 -- computation. "Where they count ticks, full stays wanted, each request is answered ok before the next tick and no other bus-off comes."
 use Prim.Native.Nat.{ℕ}
 use mathlib.Core.Path.{_≡_, refl}

@@ -69,6 +69,11 @@ module _ where
   unfolding any told toldBy since runs
   answers-kept-in-step-3 = not-running (tellsFull ∷ asks ∷ taken (busOff 3 9) [] ∷ answers ∷ asks ∷ wants 2 ∷ []) refl refl
 
+  -- it goes on without an answer: the controller was asked to start, and full is told on the next tick
+  pub full-without-an-answer : Answered network (tellsFull ∷ asks ∷ wants 2 ∷ []) → ⊥
+  unfolding any told toldBy since runs
+  full-without-an-answer = not-running (tellsFull ∷ asks ∷ wants 2 ∷ []) refl refl
+
   -- it says full while the controllers are being stopped: 7 no, and no 6 silent
   pub told-stays-full : Answered network (ticks (handed 7 7 0 ∷ handed 1 3 0 ∷ []) ∷ wants 0 ∷ up) → ⊥
   unfolding any told toldBy since runs
