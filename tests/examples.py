@@ -1,9 +1,9 @@
 #!/usr/bin/env python3
 """The recordings in `examples`: what the model of document 01 writes for each.
 
-Each `examples/NAME.hex` is an input in hexadecimal with comments, and `examples/NAME.txt` its expected output. The whole case is also
-the program's own stored run, `crates/cantrace/stdin` and `stdout`. Without arguments it writes these files; with --check it compares,
-and exits 1 if anything differs.
+Each `examples/NAME.script` is a recording as text, of which `tools/recording` makes the bytes, and `examples/NAME.txt` its expected
+output. The whole case is also the program's own stored run, `crates/cantrace/stdin` and `stdout`. Without arguments it writes these
+files; with --check it compares, and exits 1 if anything differs.
 """
 
 import pathlib
@@ -13,21 +13,20 @@ from typing import Dict
 import model
 
 ROOT = pathlib.Path(__file__).resolve().parent.parent
+sys.path.append(str(ROOT / "tools"))
+
+from recording_script import recording_of  # found by the line above
+
 EXAMPLES = ROOT / "examples"
 PROGRAM = ROOT / "crates" / "cantrace"
-WHOLE_CASE = EXAMPLES / "whole-case.hex"
-
-
-def input_of(text: str) -> bytes:
-    """The bytes of a recording: what stands before `#` on each line, in hexadecimal."""
-    return bytes.fromhex(" ".join(line.split("#")[0] for line in text.splitlines()))
+WHOLE_CASE = EXAMPLES / "whole-case.script"
 
 
 def expected_files() -> Dict[pathlib.Path, bytes]:
     """Each file that is made from the recordings, and what it has to hold."""
     files = {}
-    for recording in sorted(EXAMPLES.glob("*.hex")):
-        data = input_of(recording.read_text(encoding="utf-8"))
+    for recording in sorted(EXAMPLES.glob("*.script")):
+        data = recording_of(recording.read_bytes())
         output = model.cantrace(data).encode("ascii")
         files[recording.with_suffix(".txt")] = output
         if recording == WHOLE_CASE:

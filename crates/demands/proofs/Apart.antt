@@ -4,11 +4,11 @@ use native.Mathlib.Omega.{arith}
 use borrow.Author.Tests.{eqb-true}
 use mathlib.Core.Path.{_≡_, refl, sym, ap, _∙_}
 use mathlib.Core.List.{List, [], _∷_, _++_}
-use mathlib.Core.Bool.{Bool, true, false, cond, _&&_, _||_}
+use mathlib.Core.Bool.{Bool, true, false, cond, _&&_, _||_, or-false, true≢false}
 use lib.Dec.{eqb}
 use lib.ListN.{length, getD}
 use Rattle.lists.specs.Lists.{any, every}
-use Rattle.lists.proofs.Any.{any-append, or-false, every-cons}
+use Rattle.lists.proofs.Any.{any-append, every-cons, or-first, or-second, and-both}
 use Rattle.records.specs.declared.Record.{Record}
 use Rattle.settings.specs.declared.Network.{Network}
 use Rattle.settings.specs.declared.Id.{Id}
@@ -19,31 +19,12 @@ use Rattle.settings.proofs.Good.{fresh-right}
 use Rattle.handing.specs.Handing.{targetsOf, ownRecord}
 use Rattle.demands.specs.View.{keep}
 
-pub true-false : {A : Type 0} → true ≡ false → A
-true-false e = absurd (let z : _≡_ {A = ℕ} 0 1 = cc in omega arith)
-
-pub or-true : (a b : Bool) → b ≡ true → a || b ≡ true
-or-true true b e = refl
-or-true false b e = e
-
-pub or-first : (a b : Bool) → a ≡ true → a || b ≡ true
-or-first true b e = refl
-or-first false b e = true-false (sym e)
-
-pub and-first : (a b : Bool) → a && b ≡ true → a ≡ true
-and-first true b e = refl
-and-first false b e = e
-
-pub and-second : (a b : Bool) → a && b ≡ true → b ≡ true
-and-second true b e = e
-and-second false b e = true-false (sym e)
-
 -- ---- members
 member-left : (x : ℕ) (l m : List ℕ) → member x l ≡ true → member x (l ++ m) ≡ true
 member-left x l m e = any-append _ l m ∙ or-first _ _ e
 
 member-right : (x : ℕ) (l m : List ℕ) → member x m ≡ true → member x (l ++ m) ≡ true
-member-right x l m e = any-append _ l m ∙ or-true (member x l) _ e
+member-right x l m e = any-append _ l m ∙ or-second (member x l) _ e
 
 -- what stands in the earlier list is none of a fresh one
 fresh-absent : (e l : List ℕ) (x : ℕ) → Fresh e l → member x e ≡ true → member x l ≡ false
@@ -52,7 +33,7 @@ fresh-absent e [] x f p = refl
 fresh-absent e (y ∷ l) x f p =
     by-test (eqb y x) refl (fresh-absent (e ++ (y ∷ [])) l x (f .1) (member-left x e (y ∷ []) p)) where
       by-test : (b : Bool) → eqb y x ≡ b → member x l ≡ false → b || member x l ≡ false
-      by-test true q r = true-false (sym p ∙ ap (λ (z : ℕ). member z e) (sym (eqb-true y x q)) ∙ f .0)
+      by-test true q r = absurd (true≢false (sym p ∙ ap (λ (z : ℕ). member z e) (sym (eqb-true y x q)) ∙ f .0))
       by-test false q r = r
 
 -- a network's id is one of all
@@ -68,9 +49,9 @@ unfolding all
 fresh-once ids e [] i j d x f h k p q = absurd (omega arith)
 fresh-once ids e (n ∷ ns) zero zero d x f h k p q = refl
 fresh-once ids e (n ∷ ns) zero (suc j) d x f h k p q =
-    true-false (sym (all-member ids ns j d x (omega arith) q) ∙ fresh-absent (e ++ ids n) (all ids ns) x (fresh-right e (ids n) (all ids ns) f) (member-right x e (ids n) p))
+    absurd (true≢false (sym (all-member ids ns j d x (omega arith) q) ∙ fresh-absent (e ++ ids n) (all ids ns) x (fresh-right e (ids n) (all ids ns) f) (member-right x e (ids n) p)))
 fresh-once ids e (n ∷ ns) (suc i) zero d x f h k p q =
-    true-false (sym (all-member ids ns i d x (omega arith) p) ∙ fresh-absent (e ++ ids n) (all ids ns) x (fresh-right e (ids n) (all ids ns) f) (member-right x e (ids n) q))
+    absurd (true≢false (sym (all-member ids ns i d x (omega arith) p) ∙ fresh-absent (e ++ ids n) (all ids ns) x (fresh-right e (ids n) (all ids ns) f) (member-right x e (ids n) q)))
 fresh-once ids e (n ∷ ns) (suc i) (suc j) d x f h k p q =
     ap suc (fresh-once ids (e ++ ids n) ns i j d x (fresh-right e (ids n) (all ids ns) f) (omega arith) (omega arith) p q)
 
@@ -101,7 +82,7 @@ module _ (ns : List Network) (once : Once ns) (i j : ℕ) (d : Network) (h : i <
   targets-once true c e x p q = fresh-once controllersOf [] ns i j d x (once .controllers) h k p q
   targets-once false true e x p q = fresh-once transceiversOf [] ns i j d x (once .transceivers) h k p q
   targets-once false false true x p q = fresh-once handlesOf [] ns i j d x (once .handles) h k p q
-  targets-once false false false x p q = true-false (sym p)
+  targets-once false false false x p q = absurd (true≢false (sym p))
 
   -- two networks that a record names as its own are one
   pub own-once : (r : Record) → ownRecord (getD ns i d) r ≡ true → ownRecord (getD ns j d) r ≡ true → i ≡ j
@@ -124,7 +105,7 @@ module _ {A : Type 0} (p : A → Bool) where
   keep-all [] e = refl
   keep-all (x ∷ l) e =
       let both : p x && every p l ≡ true = sym (every-cons p x l) ∙ e in
-      rw (and-first (p x) (every p l) both) (ap (λ (r : List A). x ∷ r) (keep-all l (and-second (p x) (every p l) both)))
+      rw (and-both (p x) (every p l) both .0) (ap (λ (r : List A). x ∷ r) (keep-all l (and-both (p x) (every p l) both .1)))
 
   -- nothing is kept of what passes a test that p fails
   pub keep-none : (q : A → Bool) → ((x : A) → q x ≡ true → p x ≡ false) → (l : List A) → every q l ≡ true → keep p l ≡ []
@@ -132,4 +113,4 @@ module _ {A : Type 0} (p : A → Bool) where
   keep-none q f [] e = refl
   keep-none q f (x ∷ l) e =
       let both : q x && every q l ≡ true = sym (every-cons q x l) ∙ e in
-      rw (f x (and-first (q x) (every q l) both)) (keep-none q f l (and-second (q x) (every q l) both))
+      rw (f x (and-both (q x) (every q l) both .0)) (keep-none q f l (and-both (q x) (every q l) both .1))

@@ -3,10 +3,10 @@ use Prim.Native.Nat.{ℕ}
 use borrow.Author.Tests.{eqb-true, eq-eqb}
 use mathlib.Core.Path.{_≡_, refl, sym, ap, subst, _∙_}
 use mathlib.Core.List.{List, [], _∷_, _++_}
-use mathlib.Core.Bool.{Bool, true, false, cond, _&&_, _||_}
+use mathlib.Core.Bool.{Bool, true, false, cond, _&&_, _||_, or-false, true≢false}
 use lib.Dec.{eqb}
+use Rattle.lists.proofs.Any.{or-first, or-second, and-both}
 use Rattle.lists.specs.Lists.{any}
-use Rattle.lists.proofs.Any.{or-false}
 use Rattle.records.specs.declared.Record.{Record}
 use Rattle.settings.specs.declared.Network.{Network}
 use Rattle.settings.specs.Settings.{controllersOf, member}
@@ -14,7 +14,6 @@ use Rattle.handing.specs.Handing.{targetsOf, ownRecord}
 use Rattle.network_demands.specs.Calls.{Call, read, write, start, request, poll, busOff, answer, transceiverMode, clearDone, checkDone, tick, Entry, History}
 use Rattle.network_demands.specs.Words.{is, hands, since, tally, isTick, isBusOff, isAnswer, isRequest, accepted, ticked, fell, fellUp, shut, cleared, setback, toldBy, told, wanted, askedToStart, runs, waiting, Prompt, saysNo, FullAtTicks, Good}
 use Rattle.demands.specs.View.{keep, concerns, viewOf, viewsOf}
-use Rattle.demands.proofs.Apart.{true-false, or-true, or-first, and-first, and-second}
 
 -- ---- records that name the network
 -- a test that only own records pass finds the same among them
@@ -24,7 +23,7 @@ any-kept own p f [] = refl
 any-kept own p f (r ∷ rs) = by-test (own r) (p r) refl refl (any-kept own p f rs) where
   by-test : (b c : Bool) → own r ≡ b → p r ≡ c → any p (keep own rs) ≡ any p rs → any p (cond b (r ∷ keep own rs) (keep own rs)) ≡ c || any p rs
   by-test true c e q i = rw (q, i) refl
-  by-test false true e q i = true-false (sym (f r q) ∙ e)
+  by-test false true e q i = absurd (true≢false (sym (f r q) ∙ e))
   by-test false false e q i = i
 
 module _ (n : Network) where
@@ -51,12 +50,12 @@ module _ (n : Network) where
   -- a record of this kind, target and argument, where the kind names handles
   own-handle : (kind : ℕ) → NamesHandle kind → (argument : ℕ) (r : Record) → is kind (n .handle) argument r ≡ true → ownRecord n r ≡ true
   own-handle kind f argument r e =
-      own-target kind (r .target) r (and-first _ _ e) refl (f (r .target) (and-second (eqb argument (r .argument)) _ (and-second (eqb kind (r .kind)) _ e)))
+      own-target kind (r .target) r (and-both _ _ e .0) refl (f (r .target) (and-both (eqb argument (r .argument)) _ (and-both (eqb kind (r .kind)) _ e .1) .1))
 
   own-controller : (c argument : ℕ) → member c (controllersOf n) ≡ true → (r : Record) → is 1 c argument r ≡ true → ownRecord n r ≡ true
   unfolding targetsOf any
   own-controller c argument p r e =
-      own-target 1 c r (and-first _ _ e) (sym (eqb-true c (r .target) (and-second (eqb argument (r .argument)) _ (and-second (eqb 1 (r .kind)) _ e)))) p
+      own-target 1 c r (and-both _ _ e .0) (sym (eqb-true c (r .target) (and-both (eqb argument (r .argument)) _ (and-both (eqb 1 (r .kind)) _ e .1) .1))) p
 
   -- ---- what is said of an entry
   hands-handle : (kind : ℕ) → NamesHandle kind → (argument : ℕ) (e : Entry) → hands kind (n .handle) argument (viewOf n e) ≡ hands kind (n .handle) argument e
@@ -73,43 +72,43 @@ module _ (n : Network) where
     by-test false p = refl
 
   tick-concerns : (c : Call) → isTick c ≡ true → concerns n c ≡ true
-  tick-concerns (read bytes) e = true-false (sym e)
-  tick-concerns (write room) e = true-false (sym e)
-  tick-concerns start e = true-false (sym e)
-  tick-concerns (request handle mode) e = true-false (sym e)
-  tick-concerns (poll handle) e = true-false (sym e)
-  tick-concerns (busOff c room) e = true-false (sym e)
-  tick-concerns (answer c mode ok) e = true-false (sym e)
-  tick-concerns (transceiverMode t mode) e = true-false (sym e)
-  tick-concerns (clearDone t) e = true-false (sym e)
-  tick-concerns (checkDone t) e = true-false (sym e)
+  tick-concerns (read bytes) e = absurd (true≢false (sym e))
+  tick-concerns (write room) e = absurd (true≢false (sym e))
+  tick-concerns start e = absurd (true≢false (sym e))
+  tick-concerns (request handle mode) e = absurd (true≢false (sym e))
+  tick-concerns (poll handle) e = absurd (true≢false (sym e))
+  tick-concerns (busOff c room) e = absurd (true≢false (sym e))
+  tick-concerns (answer c mode ok) e = absurd (true≢false (sym e))
+  tick-concerns (transceiverMode t mode) e = absurd (true≢false (sym e))
+  tick-concerns (clearDone t) e = absurd (true≢false (sym e))
+  tick-concerns (checkDone t) e = absurd (true≢false (sym e))
   tick-concerns (tick room) e = refl
 
   request-concerns : (c : Call) → isRequest n c ≡ true → concerns n c ≡ true
-  request-concerns (read bytes) e = true-false (sym e)
-  request-concerns (write room) e = true-false (sym e)
-  request-concerns start e = true-false (sym e)
+  request-concerns (read bytes) e = absurd (true≢false (sym e))
+  request-concerns (write room) e = absurd (true≢false (sym e))
+  request-concerns start e = absurd (true≢false (sym e))
   request-concerns (request handle mode) e = e
-  request-concerns (poll handle) e = true-false (sym e)
-  request-concerns (busOff c room) e = true-false (sym e)
-  request-concerns (answer c mode ok) e = true-false (sym e)
-  request-concerns (transceiverMode t mode) e = true-false (sym e)
-  request-concerns (clearDone t) e = true-false (sym e)
-  request-concerns (checkDone t) e = true-false (sym e)
-  request-concerns (tick room) e = true-false (sym e)
+  request-concerns (poll handle) e = absurd (true≢false (sym e))
+  request-concerns (busOff c room) e = absurd (true≢false (sym e))
+  request-concerns (answer c mode ok) e = absurd (true≢false (sym e))
+  request-concerns (transceiverMode t mode) e = absurd (true≢false (sym e))
+  request-concerns (clearDone t) e = absurd (true≢false (sym e))
+  request-concerns (checkDone t) e = absurd (true≢false (sym e))
+  request-concerns (tick room) e = absurd (true≢false (sym e))
 
   answer-concerns : (c value : ℕ) → member c (controllersOf n) ≡ true → (call : Call) → isAnswer c value call ≡ true → concerns n call ≡ true
-  answer-concerns c value p (read bytes) e = true-false (sym e)
-  answer-concerns c value p (write room) e = true-false (sym e)
-  answer-concerns c value p start e = true-false (sym e)
-  answer-concerns c value p (request handle mode) e = true-false (sym e)
-  answer-concerns c value p (poll handle) e = true-false (sym e)
-  answer-concerns c value p (busOff c' room) e = true-false (sym e)
-  answer-concerns c value p (answer c' mode ok) e = subst (λ (x : ℕ). member x (controllersOf n) ≡ true) (eqb-true c c' (and-first _ _ e)) p
-  answer-concerns c value p (transceiverMode t mode) e = true-false (sym e)
-  answer-concerns c value p (clearDone t) e = true-false (sym e)
-  answer-concerns c value p (checkDone t) e = true-false (sym e)
-  answer-concerns c value p (tick room) e = true-false (sym e)
+  answer-concerns c value p (read bytes) e = absurd (true≢false (sym e))
+  answer-concerns c value p (write room) e = absurd (true≢false (sym e))
+  answer-concerns c value p start e = absurd (true≢false (sym e))
+  answer-concerns c value p (request handle mode) e = absurd (true≢false (sym e))
+  answer-concerns c value p (poll handle) e = absurd (true≢false (sym e))
+  answer-concerns c value p (busOff c' room) e = absurd (true≢false (sym e))
+  answer-concerns c value p (answer c' mode ok) e = subst (λ (x : ℕ). member x (controllersOf n) ≡ true) (eqb-true c c' (and-both _ _ e .0)) p
+  answer-concerns c value p (transceiverMode t mode) e = absurd (true≢false (sym e))
+  answer-concerns c value p (clearDone t) e = absurd (true≢false (sym e))
+  answer-concerns c value p (checkDone t) e = absurd (true≢false (sym e))
+  answer-concerns c value p (tick room) e = absurd (true≢false (sym e))
 
   -- a test says the same of an entry and of its view
   abbrev pub Same : (Entry → Bool) → Type 0
@@ -160,7 +159,7 @@ module _ (n : Network) where
   since-same p f (e ∷ h) = rw (f e, since-same p f h) (sym (views-either (p e) [] (e ∷ since p h)))
 
   tells-own : (r : Record) → eqb 6 (r .kind) && eqb (n .handle) (r .target) ≡ true → ownRecord n r ≡ true
-  tells-own r e = own-target 6 (r .target) r (and-first _ _ e) refl (names-6 (r .target) (and-second (eqb 6 (r .kind)) _ e))
+  tells-own r e = own-target 6 (r .target) r (and-both _ _ e .0) refl (names-6 (r .target) (and-both (eqb 6 (r .kind)) _ e .1))
 
   -- the mode told
   told-kept : (rs : List Record) (mode : ℕ) → toldBy n (keep (ownRecord n) rs) mode ≡ toldBy n rs mode
@@ -170,7 +169,7 @@ module _ (n : Network) where
     by-test : (b c : Bool) → ownRecord n r ≡ b → eqb 6 (r .kind) && eqb (n .handle) (r .target) ≡ c → ((k : ℕ) → toldBy n (keep (ownRecord n) rs) k ≡ toldBy n rs k)
         → toldBy n (cond b (r ∷ keep (ownRecord n) rs) (keep (ownRecord n) rs)) mode ≡ toldBy n rs (cond c (r .argument) mode)
     by-test true c e f later = ap (λ (x : Bool). toldBy n (keep (ownRecord n) rs) (cond x (r .argument) mode)) f ∙ later (cond c (r .argument) mode)
-    by-test false true e f later = true-false (sym (tells-own r f) ∙ e)
+    by-test false true e f later = absurd (true≢false (sym (tells-own r f) ∙ e))
     by-test false false e f later = later mode
 
   pub told-same : (h : History) → told n (viewsOf n h) ≡ told n h
@@ -221,7 +220,7 @@ module _ (n : Network) where
   unfolding any
   no-among [] f e = refl
   no-among (c ∷ l) f e =
-      rw (answer-same c 0 (f c (or-first _ _ (eq-eqb c c refl))) e, no-among l (λ c' p. f c' (or-true (eqb c c') _ p)) e) refl
+      rw (answer-same c 0 (f c (or-first _ _ (eq-eqb c c refl))) e, no-among l (λ c' p. f c' (or-second (eqb c c') _ p)) e) refl
 
   says-no-same : Same (saysNo n)
   says-no-same e = no-among (controllersOf n) (λ c p. p) e

@@ -4,12 +4,12 @@ use Prim.Native.Nat.{ℕ, zero, suc, _<_}
 use native.Mathlib.Omega.{arith}
 use mathlib.Core.Path.{_≡_, refl, sym, ap, subst, _∙_}
 use mathlib.Core.List.{List, [], _∷_, append-nil}
-use mathlib.Core.Bool.{Bool, true, false, cond, _||_}
+use mathlib.Core.Bool.{Bool, true, false, cond, _||_, true≢false}
 use lib.Dec.{eqb, ltb}
 use lib.ListN.{length, getD, take, length-take, length-replicate}
 use lib.Seq.{getD-set-same, getD-take}
 use Rattle.lists.specs.Lists.{any, first}
-use Rattle.lists.proofs.Any.{first-below, every-weaken}
+use Rattle.lists.proofs.Any.{first-below, every-weaken, first-passes}
 use Rattle.records.specs.declared.Mode.{Mode}
 use Rattle.records.specs.declared.Record.{Record}
 use Rattle.settings.specs.declared.Network.{Network}
@@ -40,13 +40,12 @@ use Rattle.manager.specs.Calls.{byStage, afterReading, readOf, afterWriting, wr
 use Rattle.manager_theorems.specs.Careful.{Sound, LeavesOthers}
 use Rattle.manager_theorems.proofs.Sound.{slot-network, tick-own-rules}
 use Rattle.network_demands.proofs.Handed.{eqb-swap}
-use Rattle.network_demands.proofs.First.{first-passes}
 use Rattle.manager_theorems.proofs.Careful.{request-others, controller-answer-others, transceiver-mode-others, clear-done-others, check-done-others, bus-off-others}
 use Rattle.network_demands.specs.Calls.{Call, read, write, start, request, poll, busOff, answer, transceiverMode, clearDone, checkDone, tick, lentBytes, outcome, handedOut}
 use Rattle.demands.specs.View.{keep, concerns}
 use Rattle.network_demands.specs.Own.{Part, unmoved, moved, requestPart, modePart, reportPart, answerPart, recoveredState, restartedState, hitPart, partOf}
 use Rattle.demands.proofs.Bridge.{hitsOut, busOffOut, ticksOut, bus-off-entry, tick-entry}
-use Rattle.demands.proofs.Apart.{true-false, Once, has-once, own-once, has-transceiver, keep-append, keep-all, keep-none}
+use Rattle.demands.proofs.Apart.{Once, has-once, own-once, has-transceiver, keep-append, keep-all, keep-none}
 
 -- ---- the record after a bus-off that is taken
 recovered : (s : State) → afterHit s Hit.Recover ≡ recoveredState s
@@ -129,7 +128,7 @@ module _ (m : Manager) (once : Once (networksOf m)) (started : m .stage ≡ Stag
   unfolding slotOf
   other-slot id p q =
       let held : holderOf id (networksOf m) ≡ Holder.At i = slot-holder (holderOf id (networksOf m)) i (subst (λ (g : Stage). byStage g Slot.NotReady Slot.NotReady (slotAt (holderOf id (networksOf m))) ≡ Slot.At i) started q) in
-      true-false (sym (held-has id (networksOf m) i blankNetwork held) ∙ ap (has id) (slot-network m i h) ∙ p)
+      absurd (true≢false (sym (held-has id (networksOf m) i blankNetwork held) ∙ ap (has id) (slot-network m i h) ∙ p))
 
   -- ---- a call that names an id of the network
   module _ (stored : i < length (m .states)) where

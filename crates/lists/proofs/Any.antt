@@ -4,7 +4,7 @@ use native.Mathlib.Omega.{arith}
 use native.Mathlib.Numerals.{add-one}
 use mathlib.Core.Path.{_≡_, refl, sym, ap, _∙_}
 use mathlib.Core.List.{List, [], _∷_, _++_, map}
-use mathlib.Core.Bool.{Bool, true, false, cond, not, _||_, _&&_}
+use mathlib.Core.Bool.{Bool, true, false, cond, not, _||_, _&&_, or-false, false≢true, true≢false}
 use lib.ListN.{length, getD, take}
 use lib.Seq.{take-all}
 use Rattle.lists.specs.Lists.{any, every, first}
@@ -14,20 +14,20 @@ or-left true b e = e
 or-left false b e = refl
 
 or-right : (a b : Bool) → a || b ≡ false → b ≡ false
-or-right true b e = absurd (let z : _≡_ {A = ℕ} 0 1 = cc in omega arith)
+or-right true b e = absurd (true≢false e)
 or-right false b e = e
 
 or-assoc : (a b c : Bool) → a || (b || c) ≡ (a || b) || c
 or-assoc true b c = refl
 or-assoc false b c = refl
 
-pub or-false : (a : Bool) → a || false ≡ a
-or-false true = refl
-or-false false = refl
+pub or-first : (a b : Bool) → a ≡ true → a || b ≡ true
+or-first true b e = refl
+or-first false b e = absurd (false≢true e)
 
-or-true : (a b : Bool) → b ≡ true → a || b ≡ true
-or-true true b e = refl
-or-true false b e = e
+pub or-second : (a b : Bool) → b ≡ true → a || b ≡ true
+or-second true b e = refl
+or-second false b e = e
 
 not-or : (a b : Bool) → not (a || b) ≡ not a && not b
 not-or true b = refl
@@ -37,13 +37,9 @@ not-not-or : (a b : Bool) → not (not a || b) ≡ a && not b
 not-not-or true b = refl
 not-not-or false b = refl
 
-and-left : (a b : Bool) → a && b ≡ true → a ≡ true
-and-left true b e = refl
-and-left false b e = e
-
-and-right : (a b : Bool) → a && b ≡ true → b ≡ true
-and-right true b e = e
-and-right false b e = absurd (let z : _≡_ {A = ℕ} 0 1 = cc in omega arith)
+pub and-both : (a b : Bool) → a && b ≡ true → (a ≡ true) × (b ≡ true)
+and-both true b e = (refl, e)
+and-both false b e = absurd (false≢true e)
 
 module _ {A : Type 0} (p : A → Bool) where
   -- ---- any
@@ -78,7 +74,7 @@ module _ {A : Type 0} (p : A → Bool) where
   any-found [] i n d h k f = absurd (omega arith)
   any-found (x ∷ l) i zero d h k f = absurd (omega arith)
   any-found (x ∷ l) zero (suc n) d h k f = rw f refl
-  any-found (x ∷ l) (suc i) (suc n) d h k f = or-true (p x) _ (any-found l i n d (omega arith) (omega arith) f)
+  any-found (x ∷ l) (suc i) (suc n) d h k f = or-second (p x) _ (any-found l i n d (omega arith) (omega arith) f)
 
   -- none passes among the first n, which have been seen
   pub any-stop : (l : List A) (i n : ℕ) → i ≤ n → n ≤ i → any p (take i l) ≡ false → any p (take n l) ≡ false
@@ -136,9 +132,27 @@ module _ {A : Type 0} (p : A → Bool) where
   every-weaken q h [] e = refl
   every-weaken q h (x ∷ l) e =
       let f : p x && every p l ≡ true = sym (every-cons x l) ∙ e in
-      not-not-or (q x) _ ∙ rw (h x (and-left (p x) _ f), every-weaken q h l (and-right (p x) _ f)) refl
+      not-not-or (q x) _ ∙ rw (h x (and-both (p x) _ f .0), every-weaken q h l (and-both (p x) _ f .1)) refl
 
 pub every-map : {A B : Type 0} (p : B → Bool) (f : A → B) (l : List A) → every p (map f l) ≡ every (λ (x : A). p (f x)) l
 unfolding every any
 every-map p f [] = refl
 every-map {A} p f (x ∷ l) = every-cons p (f x) (map f l) ∙ rw (every-map p f l) (sym (every-cons (λ (y : A). p (f y)) x l))
+
+-- where some element passes, the first that does passes
+pub first-passes : {A : Type 0} (p : A → Bool) (l : List A) (d : A) → any p l ≡ true → p (getD l (first p l) d) ≡ true
+unfolding any first
+first-passes p [] d e = absurd (false≢true e)
+first-passes p (x ∷ l) d e = by-test (p x) refl e (first-passes p l d)
+  where
+    by-test : (b : Bool) → p x ≡ b → b || any p l ≡ true → (any p l ≡ true → p (getD l (first p l) d) ≡ true) → p (getD (x ∷ l) (cond b 0 (suc (first p l))) d) ≡ true
+    by-test true q f next = q
+    by-test false q f next = next f
+
+-- where every one of the first n passes, so does each of them
+pub every-at : {A : Type 0} (p : A → Bool) (l : List A) (i n : ℕ) (d : A) → every p (take n l) ≡ true → i < n → i < length l → p (getD l i d) ≡ true
+every-at {A} p l i n d e h k = by-test (p (getD l i d)) refl
+  where
+    by-test : (b : Bool) → p (getD l i d) ≡ b → b ≡ true
+    by-test true q = refl
+    by-test false q = absurd (false≢true (sym (every-false p (take n l) (any-found (λ (x : A). not (p x)) l i n d h k (ap not q))) ∙ e))

@@ -5,7 +5,9 @@ use native.Mathlib.Numerals.{add-one}
 use borrow.Author.Tests.{lt-ltb, le-ltb}
 use mathlib.Core.Path.{_≡_, refl, sym, ap, _∙_}
 use mathlib.Core.List.{List, [], _∷_, _++_, append-nil, append-assoc}
+use mathlib.Core.Bool.{Bool, true, false, not}
 use lib.ListN.{length, getD, take, set, length-append}
+use lib.Seq.{set-getD}
 use Rattle.lists.proofs.Parts.{take-min}
 use Rattle.records.specs.declared.Record.{Record}
 use Rattle.records.specs.Records.{bytes}
@@ -19,7 +21,9 @@ use Rattle.network.specs.declared.State.{State}
 use Rattle.network.specs.declared.Hit.{Hit}
 use Rattle.network.specs.Rules.{moveOf}
 use Rattle.network.specs.Moving.{tickState, tickRecords}
+use Rattle.network.specs.Rest.{restsIn}
 use Rattle.network.specs.BusOff.{hitOf, afterHit, hitRecords}
+use Rattle.network.proofs.Rest.{resting-stays, resting-hands-out-nothing}
 use Rattle.manager.specs.declared.Stage.{Stage}
 use Rattle.manager.specs.declared.Answer.{Answer}
 use Rattle.manager.specs.declared.Manager.{Manager}
@@ -62,6 +66,11 @@ module _ (f : Network → State → State) where
       let g : x ≡ f (getD ns i d) (getD ss i e) = p ∙ ap (f (getD ns i d)) r in
       ap (λ (y : State). set now i y) g ∙ ap (λ (l : List State). set l i (f (getD ns i d) (getD ss i e))) q
       ∙ one-more ns ss i d e h k ∙ ap (λ (j : ℕ). each f (take j ns) ss) (sym (add-one i))
+
+  -- one turn of the loop that leaves what it read, since f does
+  pub each-same : (ns : List Network) (ss now : List State) (i : ℕ) (d : Network) (e : State) → i < length ns → i < length ss →
+      now ≡ each f (take i ns) ss → f (getD ns i d) (getD now i e) ≡ getD now i e → now ≡ each f (take (i + 1) ns) ss
+  each-same ns ss now i d e h k q p = sym (set-getD now i e) ∙ each-more ns ss now i d e h k q (getD now i e) (sym p)
 
 -- ---- what the ticks hand out
 records-none : (ss : List State) → allRecords [] ss ≡ []
@@ -123,6 +132,11 @@ shares-within (m ∷ ns) zero (suc n) d h k = omega arith
 shares-within (m ∷ ns) (suc i) (suc n) d h k = omega (arith, shares-within ns i n d (omega arith) (omega arith))
 
 -- ---- one turn of the loop over the networks
+-- the test for a network that does not rest has failed
+pub rests-so : (r : Bool) {b : Bool} → r ≡ b → not r ≡ false → b ≡ true
+rests-so false p q = absurd (let z : _≡_ {A = ℕ} 0 1 = cc in omega arith)
+rests-so true p q = sym p
+
 module _ (ns : List Network) (ss now : List State) (i : ℕ) (d : Network) (e : State) (h : i < length ns) (k : i < length ss) (q : now ≡ each tickState (take i ns) ss)
     {b b₁ : List ℕ} {r : ℕ} (w : Wrote b b₁ 0 r (allRecords (take i ns) ss)) where
   still : getD now i e ≡ getD ss i e
@@ -136,6 +150,14 @@ module _ (ns : List Network) (ss now : List State) (i : ℕ) (d : Network) (e : 
 
   pub tick-wrote : {b₂ : List ℕ} {s : ℕ} → Wrote b₁ b₂ r s (tickRecords (getD ns i d) (getD now i e)) → Wrote b b₂ 0 s (allRecords (take (i + 1) ns) ss)
   tick-wrote v = rw (records-more ns ss i d e h k) (wrote-then w (rw still at v))
+
+  -- the network rests: its record is the one after a tick, and nothing is handed out
+  module _ (o : restsIn (getD now i e .step) (getD now i e .wanted) ≡ true) where
+    pub rest-kept : now ≡ each tickState (take (i + 1) ns) ss
+    rest-kept = each-same tickState ns ss now i d e h k q (resting-stays (getD ns i d) (getD now i e) o)
+
+    pub rest-wrote : Wrote b b₁ 0 r (allRecords (take (i + 1) ns) ss)
+    rest-wrote = tick-wrote (rw (resting-hands-out-nothing (getD ns i d) (getD now i e) o) (wrote-none b₁ r))
 
 -- ---- the outcome
 -- from the front: so many records, and the buffer that has them

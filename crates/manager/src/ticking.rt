@@ -12,7 +12,7 @@ ghost use Rattle.network.specs.Moving.{tickState};
 ghost use Rattle.manager.specs.Manager.{accepted, networksOf, withStates, tickNeeds, each, allRecords};
 ghost use Rattle.manager.specs.Calls.{bufferWith, tickOf, tickBuffer};
 
-// Every network ticks, in sheet order.
+// Every network ticks, in sheet order. One that rests stays as it is.
 fn tick_networks(manager: Manager, out: &mut [u8]) -> Outcome
     requires { ⌜ tickNeeds manager ≤ length (now out) ⌝ }
     ensures { λ r. ⌜ (r ≡ accepted (withStates manager Stage.Started (each tickState (networksOf manager) (manager .states))) (length (allRecords (networksOf manager) (manager .states)))) × (now (out .exit) ≡ bufferWith (now (out .entry)) (allRecords (networksOf manager) (manager .states))) ⌝ }
@@ -37,12 +37,14 @@ fn tick_networks(manager: Manager, out: &mut [u8]) -> Outcome
                 place: 0,
             };
         }
-        let network = networks[i as usize];
         let state = states[i as usize];
-        let ticked = network::tick(network, state, out, next);
-        let after = ticked.state;
-        states[i as usize] = after;
-        next = ticked.next;
+        if !network::rests(state) {
+            let network = networks[i as usize];
+            let ticked = network::tick(network, state, out, next);
+            let after = ticked.state;
+            states[i as usize] = after;
+            next = ticked.next;
+        }
         i += 1;
     }
     Outcome {

@@ -4,7 +4,7 @@ use Prim.Native.Nat.{ℕ}
 use native.Mathlib.Omega.{arith}
 use mathlib.Core.Path.{_≡_, refl, sym, ap}
 use mathlib.Core.List.{List, _++_}
-use mathlib.Core.Bool.{Bool, true, false, cond}
+use mathlib.Core.Bool.{Bool, true, false, cond, true≢false}
 use lib.Dec.{eqb, leb, ltb}
 use lib.ListN.{length, drop}
 use lib.Seq.{getD-set-other}
@@ -32,16 +32,13 @@ use Rattle.manager.specs.Manager.{settingsOf, blankState, networkAt, stateAt, w
 use Rattle.manager.specs.Calls.{byStage, afterReading, readOf, afterWriting, writeOf, writeBuffer, startOf, slotOf, bySlot, requestAt, requestOf, pollOf, reportAt, answerAt, controllerAnswerOf, transceiverAt, transceiverModeOf, clearDoneOf, checkDoneOf, hitOutcome, bufferWith, busOffOf, slotBuffer, busOffBuffer, tickOf, tickBuffer}
 use Rattle.manager_theorems.specs.Careful.{isAccepted, Careful, LeavesOthers}
 
-true-false : {A : Type 0} → true ≡ false → A
-true-false e = absurd (let z : _≡_ {A = ℕ} 0 1 = cc in omega arith)
-
 -- ---- a refused call changes nothing
 module _ (m : Manager) where
   refused-careful : (a : Answer) → Careful m (refused m a)
   refused-careful a e = record { manager = refl; count = refl; mode = refl }
 
   accepted-careful : (n : Manager) (k : ℕ) → Careful m (accepted n k)
-  accepted-careful n k e = true-false e
+  accepted-careful n k e = absurd (true≢false e)
 
   if-careful : (b : Bool) (x y : Outcome) → Careful m x → Careful m y → Careful m (cond b x y)
   if-careful true x y p q = p
@@ -58,7 +55,7 @@ module _ (m : Manager) where
   slot-careful (Slot.At i) none found p = p i
 
   reading-careful : (r : Reading) (a : SheetAnswer) → Careful m (afterReading m r a)
-  reading-careful r SheetAnswer.Accepted e = true-false e
+  reading-careful r SheetAnswer.Accepted e = absurd (true≢false e)
   reading-careful r (SheetAnswer.Refused fault) e = record { manager = refl; count = refl; mode = refl }
 
   pub read-careful : (b : List ℕ) → Careful m (readOf m b)
@@ -91,7 +88,7 @@ module _ (m : Manager) where
 
   pub poll-careful : (handle : ℕ) → Careful m (pollOf m handle)
   unfolding pollOf
-  poll-careful handle = slot-careful (slotOf m (Id.OfNetwork handle)) Answer.NoHandle _ (λ i e. true-false e)
+  poll-careful handle = slot-careful (slotOf m (Id.OfNetwork handle)) Answer.NoHandle _ (λ i e. absurd (true≢false e))
 
   report-careful : (i : ℕ) (report : Report) (after : State) → Careful m (reportAt m i report after)
   unfolding reportAt
@@ -154,11 +151,11 @@ module _ (b : List ℕ) where
     unfolding tickOf tickBuffer
     tick-untouched =
         stage-untouched (m .stage) _ _ _ _ _ _ (λ e. refl) (λ e. refl)
-        (if-untouched (ltb (length b) (tickNeeds m)) _ _ _ _ (λ e. refl) (λ e. true-false e))
+        (if-untouched (ltb (length b) (tickNeeds m)) _ _ _ _ (λ e. refl) (λ e. absurd (true≢false e)))
 
     hit-untouched : (i : ℕ) (hit : Hit) → Untouched b (hitOutcome m i hit) (bufferWith b (hitRecords (networkAt m i) hit))
     unfolding hitRecords bytes
-    hit-untouched i Hit.Recover e = true-false e
+    hit-untouched i Hit.Recover e = absurd (true≢false e)
     hit-untouched i Hit.Restart e = refl
     hit-untouched i Hit.NotTaken e = refl
 
@@ -174,7 +171,7 @@ module _ (b : List ℕ) where
         (if-untouched (ltb (length b) 9) _ _ _ _ (λ e. refl) (slot-untouched (slotOf m (Id.OfController id))))
 
     by-room : (c : Bool) → Untouched b (afterWriting m (cond c (Written.Length (length (encode (settingsOf m)))) Written.Short)) (cond c (encode (settingsOf m) ++ drop (length (encode (settingsOf m))) b) b)
-    by-room true e = true-false e
+    by-room true e = absurd (true≢false e)
     by-room false e = refl
 
     writing-untouched : Untouched b (afterWriting m (written (settingsOf m) b)) (bufferAfter (settingsOf m) b)

@@ -3,3 +3,4 @@ pub mod Rules
 pub mod Moving
 pub mod Answers
 pub mod BusOff
+pub mod Rest

@@ -13,6 +13,7 @@ pub use bus_off::strike;
 use records::Mode;
 use settings::Network;
 use steps::Step;
+pub use ticking::rests;
 pub use ticking::tick;
 
 // A controller's last answer in this step.

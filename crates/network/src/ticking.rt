@@ -4,6 +4,7 @@ use crate::Heard;
 use crate::State;
 use crate::Ticked;
 use crate::moving::after_move;
+use records::Mode;
 use settings::Network;
 use settings::Transceiver;
 use steps::Ask;
@@ -16,6 +17,7 @@ ghost use Rattle.records.specs.Wrote.{Room, Wrote};
 ghost use Rattle.network.specs.State.{heardOf};
 ghost use Rattle.network.specs.Rules.{isOkay, isRefusal, isDone, isSleep, isLong, delayOf, reachedBy, outfitOf, moveOf};
 ghost use Rattle.network.specs.Moving.{tickState, tickRecords};
+ghost use Rattle.network.specs.Rest.{restsIn};
 
 // ---- the answers
 
@@ -192,6 +194,43 @@ fn choose(network: Network, state: State) -> Move
         return steps::decide(step, wanted, done, refused, reached, outfit);
     }
     steps::decide(step, wanted, done, false, reached, outfit)
+}
+
+// The network rests: what is wanted is there. Its tick changes nothing and hands out nothing.
+pub fn rests(state: State) -> bool
+    ensures { λ r. ⌜ r ≡ restsIn (state .step) (state .wanted) ⌝ }
+{
+    let step = state.step;
+    let wanted = state.wanted;
+    match step {
+        Step::NoCommunication => match wanted {
+            Mode::No => true,
+            Mode::Silent => false,
+            Mode::Full => false,
+        },
+        Step::TransceiverNormal => false,
+        Step::ControllersStopped => false,
+        Step::ControllersStarted => false,
+        Step::Checking(_) => false,
+        Step::Full => match wanted {
+            Mode::No => false,
+            Mode::Silent => false,
+            Mode::Full => true,
+        },
+        Step::Restarting => false,
+        Step::Waiting(_) => false,
+        Step::Silent => match wanted {
+            Mode::No => false,
+            Mode::Silent => true,
+            Mode::Full => false,
+        },
+        Step::ClearWake => false,
+        Step::DownStopped => false,
+        Step::TransceiverStandby => false,
+        Step::ControllersSleep => false,
+        Step::CheckWake => false,
+        Step::CheckWakeAgain => false,
+    }
 }
 
 // One network's tick: what it hands out is written from record number k on.

@@ -9,7 +9,7 @@ use lib.Dec.{eqb, ltb}
 use lib.ListN.{length, getD, take}
 use lib.Seq.{getD-set-same, getD-set-other}
 use Rattle.lists.specs.Lists.{any, every, first}
-use Rattle.lists.proofs.Any.{any-found, every-false, first-below}
+use Rattle.lists.proofs.Any.{first-below, first-passes, every-at}
 use Rattle.lists.proofs.Parts.{padded-length, padded-count}
 use Rattle.records.specs.declared.ControllerMode.{ControllerMode}
 use Rattle.records.specs.declared.Mode.{Mode}
@@ -33,7 +33,7 @@ use Rattle.network.specs.declared.Heard.{Heard}
 use Rattle.network.specs.declared.Report.{Report}
 use Rattle.network.specs.declared.State.{State}
 use Rattle.network.specs.State.{heard, blankAnswers, heardOf, started}
-use Rattle.network.specs.Rules.{doneBy, isOkay, isRefusal, isDone, outfitOf}
+use Rattle.network.specs.Rules.{isOkay, isRefusal, outfitOf}
 use Rattle.network.specs.Moving.{asksAfter, keepsAnswers, afterMove}
 use Rattle.network.specs.Answers.{awaits, takesReport, answerOf}
 use Rattle.network.specs.BusOff.{isStarting}
@@ -43,27 +43,10 @@ use Rattle.network_demands.specs.Calls.{Call, answer, tick, Entry, Histo
 use Rattle.network_demands.specs.Words.{is, since, setback, toldBy, told, askedToStart, runs, Answered}
 use Rattle.network_demands.specs.Own.{Part, partOf, stateOf, Ran, slotOf, heardState, tickPart, finished, decides, reaches}
 use Rattle.network_demands.proofs.Views.{entry, as-ruled, by-part, state-kept}
+use Rattle.network_demands.proofs.Tests.{finished-answered}
 use Rattle.network_demands.proofs.Handed.{eqb-same, asks-each-to-start, move-tells, isGoDown, move-shuts}
 
 -- ---- the slot of a controller
--- where some element passes, the first that does passes
-pub first-passes : {A : Type 0} (p : A → Bool) (l : List A) (d : A) → any p l ≡ true → p (getD l (first p l) d) ≡ true
-unfolding any first
-first-passes p [] d e = absurd (false≢true e)
-first-passes p (x ∷ l) d e = by-test (p x) refl e (first-passes p l d)
-  where
-    by-test : (b : Bool) → p x ≡ b → b || any p l ≡ true → (any p l ≡ true → p (getD l (first p l) d) ≡ true) → p (getD (x ∷ l) (cond b 0 (suc (first p l))) d) ≡ true
-    by-test true q f next = q
-    by-test false q f next = next f
-
--- where every one of the first n passes, so does each of them
-pub every-at : {A : Type 0} (p : A → Bool) (l : List A) (i n : ℕ) (d : A) → every p (take n l) ≡ true → i < n → i < length l → p (getD l i d) ≡ true
-every-at {A} p l i n d e h k = by-test (p (getD l i d)) refl
-  where
-    by-test : (b : Bool) → p (getD l i d) ≡ b → b ≡ true
-    by-test true q = refl
-    by-test false q = absurd (false≢true (sym (every-false p (take n l) (any-found (λ (x : A). not (p x)) l i n d h k (ap not q))) ∙ e))
-
 -- two controllers of the network that have the same slot are one
 pub same-slot : (n : Network) (c d : ℕ) → member c (controllersOf n) ≡ true → member d (controllersOf n) ≡ true → slotOf n c ≡ slotOf n d → c ≡ d
 same-slot n c d p q e =
@@ -269,15 +252,10 @@ module _ (n : Network) (h : History) (room mode : ℕ) (told : Mode) (asked : Bo
 
 -- where a step that asks to start is done, all controllers run
 done-running : (n : Network) (s : State) (q : History) → InRange n → Kept n s → ByStep n (s .step) (s .asked) (s .answers) q
-    → isDone n s ≡ true → asksToStart (asksFor (s .step)) ≡ true → Running n q
-unfolding isDone
+    → finished n s ≡ true → asksToStart (asksFor (s .step)) ≡ true → Running n q
 done-running n s q g k b d e c m =
     let u = slot-in-use n s c g k m in
-    b .starting e .answered c m (every-at isOkay (s .answers) (slotOf n c) (n .count) (heard Answer.Pending) (okay (s .asked) (asksFor (s .step)) (to-start (asksFor (s .step)) e) d) (u .0) (u .1))
-  where
-    okay : (asked : Bool) (ask : Ask) → ask ≡ Ask.Controllers ControllerMode.Started → cond asked (doneBy ask (heardOf n s) (s .reported)) false ≡ true → every isOkay (heardOf n s) ≡ true
-    okay true ask f d = ap (λ (ask : Ask). doneBy ask (heardOf n s) (s .reported)) (sym f) ∙ d
-    okay false ask f d = absurd (false≢true d)
+    b .starting e .answered c m (every-at isOkay (s .answers) (slotOf n c) (n .count) (heard Answer.Pending) (finished-answered n s d (to-start (asksFor (s .step)) e)) (u .0) (u .1))
 
 tick-keeps : (n : Network) (h : History) (mode : ℕ) (s : State) → InRange n → Kept n s → Holds n s h → (room : ℕ) → Keeps n h mode (tick room) (tickPart n s)
 unfolding afterMove told

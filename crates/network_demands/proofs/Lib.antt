@@ -1,4 +1,5 @@
 pub mod Views
+pub mod Tests
 pub mod Handed
 pub mod First
 pub mod Meaning

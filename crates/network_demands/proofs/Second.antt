@@ -2,13 +2,13 @@
 -- record keeps of a history. Assumes nothing.
 use Prim.Native.Nat.{ℕ, suc, _+_, _≤_, min}
 use native.Mathlib.Omega.{arith}
-use borrow.Author.Tests.{ltb-true, ltb-false, leb-true, lt-ltb, le-ltb}
+use borrow.Author.Tests.{ltb-true, ltb-false, lt-ltb, le-ltb}
 use mathlib.Core.Path.{_≡_, refl, sym, ap, subst, _∙_}
 use mathlib.Core.List.{[], _∷_, _++_}
-use mathlib.Core.Bool.{Bool, true, false, cond, _&&_, and-false, false≢true, true≢false}
-use lib.Dec.{leb, ltb, eqb}
+use mathlib.Core.Bool.{Bool, true, false, cond, _&&_, and-false, false≢true, true≢false, or-false}
+use lib.Dec.{ltb, eqb}
 use Rattle.lists.specs.Lists.{any}
-use Rattle.lists.proofs.Any.{or-false, any-append-left, any-append-right}
+use Rattle.lists.proofs.Any.{any-append-left, any-append-right}
 use Rattle.records.specs.declared.PduMode.{PduMode}
 use Rattle.records.specs.declared.Mode.{Mode}
 use Rattle.records.specs.declared.Notice.{Notice}
@@ -25,13 +25,14 @@ use Rattle.steps.specs.After.{stepAfter, risen}
 use Rattle.handing.specs.Handing.{enteringFull, enteringSilent, downNotices, moveRecords, recovery}
 use Rattle.network.specs.declared.State.{State}
 use Rattle.network.specs.State.{started}
-use Rattle.network.specs.Rules.{isDone, isLong, delayOf, reachedBy}
+use Rattle.network.specs.Rules.{isLong, delayOf}
 use Rattle.network.specs.Moving.{toldAfter, countAfter, asksAfter, afterMove}
 use Rattle.network.specs.BusOff.{raised}
 use Rattle.network_demands.specs.Calls.{Call, busOff, tick, Entry, History}
 use Rattle.network_demands.specs.Words.{is, since, never, tally, isBusOff, isRequest, modeAsked, ticked, fell, fellUp, shut, cleared, toldBy, told, wanted, delayAt, Delayed}
-use Rattle.network_demands.specs.Own.{Part, partOf, stateOf, Ran, Fit, recoveredPart, tickPart, finished, decides}
+use Rattle.network_demands.specs.Own.{Part, partOf, stateOf, Ran, Fit, recoveredPart, tickPart, finished, reaches, decides}
 use Rattle.network_demands.proofs.Views.{split, entry, as-ruled, Plain, plainPart, by-part}
+use Rattle.network_demands.proofs.Tests.{finished-asked, reaches-passed}
 use Rattle.network_demands.proofs.Handed.{eqb-same, isGoDown, requests-hand-none, pdu-hands-none, entering-hands, going-down-hands, move-tells, move-shuts}
 
 -- ---- what is said of every entry is said of the first and of the rest
@@ -268,15 +269,6 @@ fell-up-recovers needs n s P p = by-part needs n s (λ call part. (mode : ℕ) �
   ticks = λ room e mode f. absurd (false≢true f);
 })
 
--- done means asked
-pub done-asked : (n : Network) (s : State) → isDone n s ≡ true → s .asked ≡ true
-unfolding isDone
-done-asked n s = by-test (s .asked) _
-  where
-    by-test : (b x : Bool) → cond b x false ≡ true → b ≡ true
-    by-test true x e = refl
-    by-test false x e = absurd (false≢true e)
-
 -- a tick count rises by one at most
 risen-most : (t : ℕ) → risen t ≤ t + 1
 risen-most t = split (λ (x : ℕ). x ≤ t + 1) (ltb t 65535) (λ _. omega arith) (λ _. omega arith)
@@ -286,7 +278,7 @@ abbrev LateAfter : Network → ℕ → Step → Mode → Bool → ℕ → ℕ �
 LateAfter n d step told asked count k m =
     isGoDown m ≡ false → Late n d (stepAfter m step (n .partial)) (toldAfter m told) (asksAfter m asked) (countAfter m count) (suc k)
 
-module _ (n : Network) (d k count : ℕ) (told : Mode) (asked done refused : Bool) (outfit : Outfit) (done-means : done ≡ true → asked ≡ true) where
+module _ (n : Network) (d k count : ℕ) (told : Mode) (asked done refused reached : Bool) (outfit : Outfit) (done-means : done ≡ true → asked ≡ true) where
   -- a tick that goes down begins a shutdown
   down : {A : Type 0} → isGoDown GoDown ≡ false → A
   down e = absurd (true≢false e)
@@ -295,40 +287,39 @@ module _ (n : Network) (d k count : ℕ) (told : Mode) (asked done refused : Boo
   late-restarting : Late n d Restarting told asked count k → LateAfter n d Restarting told asked count k (cond done Wait AskAgain)
   late-restarting l = split (LateAfter n d Restarting told asked count k) done (λ e _. (l .0, l .1, omega (arith, l .2 (done-means e)))) (λ _ _. (l .0, l .1, λ _. omega arith))
 
-  late-waiting : (t : ℕ) (m : Move) → Late n d (Waiting t) told asked count k → (delayOf n count ≤ t + 1 → LateAfter n d (Waiting t) told asked count k m)
-      → LateAfter n d (Waiting t) told asked count k (cond (leb (delayOf n count) (t + 1)) m Count)
-  late-waiting t m l f = split (LateAfter n d (Waiting t) told asked count k) (leb (delayOf n count) (t + 1)) (λ e. f (leb-true (delayOf n count) (t + 1) e))
-      (λ _ _. (l .0, l .1, omega (arith, l .2, risen-most t)))
+  late-waiting : (t : ℕ) (m : Move) → Late n d (Waiting t) told asked count k → (reached ≡ true → LateAfter n d (Waiting t) told asked count k m)
+      → LateAfter n d (Waiting t) told asked count k (cond reached m Count)
+  late-waiting t m l f = split (LateAfter n d (Waiting t) told asked count k) reached f (λ _ _. (l .0, l .1, omega (arith, l .2, risen-most t)))
 
   -- a tick that does not go down
-  late-move : (step : Step) (wanted : Mode) → Late n d step told asked count k
-      → LateAfter n d step told asked count k (decision step wanted done refused (reachedBy step (n .ensure) (delayOf n count)) outfit)
+  late-move : (step : Step) (wanted : Mode) → ((t : ℕ) → step ≡ Waiting t → reached ≡ true → delayOf n count ≤ t + 1) → Late n d step told asked count k
+      → LateAfter n d step told asked count k (decision step wanted done refused reached outfit)
   unfolding decision
-  late-move NoCommunication wanted l = absurd l
-  late-move TransceiverNormal wanted l = absurd l
-  late-move ControllersStopped wanted l = absurd l
-  late-move ControllersStarted wanted l = absurd l
-  late-move (Checking t) Mode.No l = down
-  late-move (Checking t) Mode.Silent l = λ _. omega arith
-  late-move (Checking t) Mode.Full l = split (LateAfter n d (Checking t) told asked count k) (leb (n .ensure) (t + 1)) (λ _ _. omega arith) (λ _ _. omega arith)
-  late-move Full Mode.No l = down
-  late-move Full Mode.Silent l = λ _. omega arith
-  late-move Full Mode.Full l = λ _. omega arith
-  late-move Restarting Mode.No l = down
-  late-move Restarting Mode.Silent l = late-restarting l
-  late-move Restarting Mode.Full l = late-restarting l
-  late-move (Waiting t) Mode.No l = down
-  late-move (Waiting t) Mode.Silent l = late-waiting t EnterSilent l (λ e _. omega (arith, e, l .0, l .2))
-  late-move (Waiting t) Mode.Full l = late-waiting t EnterFull l (λ e _. omega (arith, e, l .0, l .2))
-  late-move Silent Mode.No l = down
-  late-move Silent Mode.Silent l = λ _. omega arith
-  late-move Silent Mode.Full l = λ _. omega arith
-  late-move ClearWake wanted l = absurd l
-  late-move DownStopped wanted l = absurd l
-  late-move TransceiverStandby wanted l = absurd l
-  late-move ControllersSleep wanted l = absurd l
-  late-move CheckWake wanted l = absurd l
-  late-move CheckWakeAgain wanted l = absurd l
+  late-move NoCommunication wanted r l = absurd l
+  late-move TransceiverNormal wanted r l = absurd l
+  late-move ControllersStopped wanted r l = absurd l
+  late-move ControllersStarted wanted r l = absurd l
+  late-move (Checking t) Mode.No r l = down
+  late-move (Checking t) Mode.Silent r l = λ _. omega arith
+  late-move (Checking t) Mode.Full r l = split (LateAfter n d (Checking t) told asked count k) reached (λ _ _. omega arith) (λ _ _. omega arith)
+  late-move Full Mode.No r l = down
+  late-move Full Mode.Silent r l = λ _. omega arith
+  late-move Full Mode.Full r l = λ _. omega arith
+  late-move Restarting Mode.No r l = down
+  late-move Restarting Mode.Silent r l = late-restarting l
+  late-move Restarting Mode.Full r l = late-restarting l
+  late-move (Waiting t) Mode.No r l = down
+  late-move (Waiting t) Mode.Silent r l = late-waiting t EnterSilent l (λ e _. omega (arith, r t refl e, l .0, l .2))
+  late-move (Waiting t) Mode.Full r l = late-waiting t EnterFull l (λ e _. omega (arith, r t refl e, l .0, l .2))
+  late-move Silent Mode.No r l = down
+  late-move Silent Mode.Silent r l = λ _. omega arith
+  late-move Silent Mode.Full r l = λ _. omega arith
+  late-move ClearWake wanted r l = absurd l
+  late-move DownStopped wanted r l = absurd l
+  late-move TransceiverStandby wanted r l = absurd l
+  late-move ControllersSleep wanted r l = absurd l
+  late-move CheckWake wanted r l = absurd l
+  late-move CheckWakeAgain wanted r l = absurd l
 
 -- it stands so over every call that is no bus-off and no shutdown
 late-call : (needs : ℕ) (n : Network) (d : ℕ) (h : History) (s : State) → LateState n d s (tally ticked h) → (call : Call) (mode : ℕ)
@@ -343,7 +334,7 @@ late-call needs n d h s l = by-part needs n s
       recovers = λ c room e u mode f _. absurd (true≢false (sym e ∙ f));
       restarts = λ c room e u mode f _. absurd (true≢false (sym e ∙ f));
       not-taken = λ c room e u v mode f _. absurd (true≢false (sym e ∙ f));
-      ticks = λ room e mode _ z. late-move n d (tally ticked h) (s .count) (s .told) (s .asked) (finished n s) _ _ (done-asked n s) (s .step) (s .wanted) l
+      ticks = λ room e mode _ z. late-move n d (tally ticked h) (s .count) (s .told) (s .asked) (finished n s) _ (reaches n s) _ (finished-asked n s) (s .step) (s .wanted) (reaches-passed n s) l
           (sym (move-shuts n (s .step) (s .told) (decides n s)) ∙ z);
     })
 

@@ -30,7 +30,7 @@ use Rattle.network.specs.declared.Heard.{Heard}
 use Rattle.network.specs.declared.Report.{Report}
 use Rattle.network.specs.declared.State.{State}
 use Rattle.network.specs.State.{heard, blankAnswers, heardOf}
-use Rattle.network.specs.Rules.{isOkay, isRefusal, outfitOf, doneBy, isDone, delayOf, reachedBy}
+use Rattle.network.specs.Rules.{isOkay, isRefusal, outfitOf, delayOf}
 use Rattle.network.specs.Moving.{toldAfter, countAfter, asksAfter, keepsAnswers, afterMove}
 use Rattle.network.specs.Answers.{awaits, takesReport, answerOf}
 use Rattle.network_theorems.specs.Kept.{Kept}
@@ -38,6 +38,7 @@ use Rattle.network_demands.specs.Calls.{Call, answer, tick, Entry, Histo
 use Rattle.network_demands.specs.Words.{is, hands, since, tally, isTick, isAnswer, ticked, fell, fellUp, cleared, delayAt, FullAtTicks, waiting, Prompt, saysNo, Good, OnJustThatTick, SaidFrom}
 use Rattle.network_demands.specs.Own.{Part, unmoved, partOf, stateOf, Fits, Ran, Fit, slotOf, tickPart, finished, decides, reaches}
 use Rattle.network_demands.proofs.Views.{split, entry, as-ruled, by-part, state-kept}
+use Rattle.network_demands.proofs.Tests.{finished-just, reaches-just}
 use Rattle.network_demands.proofs.Handed.{eqb-same, asks-each-to-start, requests-hand-none, pdu-hands-none, entering-hands, going-down-hands}
 use Rattle.network_demands.proofs.First.{saidOkay}
 use Rattle.network_demands.proofs.Slots.{any-member, okay-own, okay-other, all-okay}
@@ -164,28 +165,32 @@ module _ (n : Network) (g : InRange n) (f : Distinct (controllersOf n)) (d : ℕ
       ((o .0, o .1, omega (arith, o .2), omega (arith, o .0)), not-this d k (λ z. omega (arith, o .0, o .2))))
 
   -- a tick at which full is wanted and no request to start stands unanswered
-  on-move : (told : Mode) (asked reported refused : Bool) (answers : List Heard) (count k : ℕ) (w w′ : ℕ → Bool) (outfit : Outfit) (step : Step)
+  on-move : (told : Mode) (asked done refused reached : Bool) (answers : List Heard) (count k : ℕ) (w w′ : ℕ → Bool) (outfit : Outfit) (step : Step)
+      → (step ≡ Restarting → done ≡ cond asked (every isOkay (take (n .count) answers)) false)
+      → ((t : ℕ) → step ≡ Waiting t → reached ≡ leb (delayOf n count) (t + 1))
       → On n d step told asked answers count k w → ((c : ℕ) → member c (controllersOf n) ≡ true → w c ≡ false)
-      → OnAfter n d step told asked answers count k w′
-      (decision step Mode.Full (cond asked (doneBy (asksFor step) (take (n .count) answers) reported) false) refused (reachedBy step (n .ensure) (delayOf n count)) outfit)
+      → OnAfter n d step told asked answers count k w′ (decision step Mode.Full done refused reached outfit)
   unfolding decision
-  on-move told asked reported refused answers count k w w′ outfit NoCommunication o an = absurd o
-  on-move told asked reported refused answers count k w w′ outfit TransceiverNormal o an = absurd o
-  on-move told asked reported refused answers count k w w′ outfit ControllersStopped o an = absurd o
-  on-move told asked reported refused answers count k w w′ outfit ControllersStarted o an = absurd o
-  on-move told asked reported refused answers count k w w′ outfit (Checking t) o an =
-      split (OnAfter n d (Checking t) told asked answers count k w′) (leb (n .ensure) (t + 1))
+  on-move told asked done refused reached answers count k w w′ outfit NoCommunication p r o an = absurd o
+  on-move told asked done refused reached answers count k w w′ outfit TransceiverNormal p r o an = absurd o
+  on-move told asked done refused reached answers count k w w′ outfit ControllersStopped p r o an = absurd o
+  on-move told asked done refused reached answers count k w w′ outfit ControllersStarted p r o an = absurd o
+  on-move told asked done refused reached answers count k w w′ outfit (Checking t) p r o an =
+      split (OnAfter n d (Checking t) told asked answers count k w′) reached
       (λ _ _. ((o .0, omega (arith, o .1)), not-this d k (λ z. omega (arith, o .1)))) (λ _ _. ((o .0, omega (arith, o .1)), not-this d k (λ z. omega (arith, o .1))))
-  on-move told asked reported refused answers count k w w′ outfit Full o an = λ _. ((o .0, omega (arith, o .1)), not-this d k (λ z. omega (arith, o .1)))
-  on-move told asked reported refused answers count k w w′ outfit Restarting o an = on-restarting told asked (every isOkay (take (n .count) answers)) answers count k w w′ (all-okay n g f answers) o an
-  on-move told asked reported refused answers count k w w′ outfit (Waiting t) o an = on-waiting told asked answers count k t w w′ o
-  on-move told asked reported refused answers count k w w′ outfit Silent o an = absurd o
-  on-move told asked reported refused answers count k w w′ outfit ClearWake o an = absurd o
-  on-move told asked reported refused answers count k w w′ outfit DownStopped o an = absurd o
-  on-move told asked reported refused answers count k w w′ outfit TransceiverStandby o an = absurd o
-  on-move told asked reported refused answers count k w w′ outfit ControllersSleep o an = absurd o
-  on-move told asked reported refused answers count k w w′ outfit CheckWake o an = absurd o
-  on-move told asked reported refused answers count k w w′ outfit CheckWakeAgain o an = absurd o
+  on-move told asked done refused reached answers count k w w′ outfit Full p r o an = λ _. ((o .0, omega (arith, o .1)), not-this d k (λ z. omega (arith, o .1)))
+  on-move told asked done refused reached answers count k w w′ outfit Restarting p r o an =
+      subst (λ (b : Bool). OnAfter n d Restarting told asked answers count k w′ (cond b Wait AskAgain)) (sym (p refl))
+      (on-restarting told asked (every isOkay (take (n .count) answers)) answers count k w w′ (all-okay n g f answers) o an)
+  on-move told asked done refused reached answers count k w w′ outfit (Waiting t) p r o an =
+      subst (λ (b : Bool). OnAfter n d (Waiting t) told asked answers count k w′ (cond b EnterFull Count)) (sym (r t refl)) (on-waiting told asked answers count k t w w′ o)
+  on-move told asked done refused reached answers count k w w′ outfit Silent p r o an = absurd o
+  on-move told asked done refused reached answers count k w w′ outfit ClearWake p r o an = absurd o
+  on-move told asked done refused reached answers count k w w′ outfit DownStopped p r o an = absurd o
+  on-move told asked done refused reached answers count k w w′ outfit TransceiverStandby p r o an = absurd o
+  on-move told asked done refused reached answers count k w w′ outfit ControllersSleep p r o an = absurd o
+  on-move told asked done refused reached answers count k w w′ outfit CheckWake p r o an = absurd o
+  on-move told asked done refused reached answers count k w w′ outfit CheckWakeAgain p r o an = absurd o
 
   -- ---- a call that hands out nothing
   -- what it changes at most is who is waited for, and what has been answered
@@ -256,7 +261,7 @@ module _ (n : Network) (g : InRange n) (f : Distinct (controllersOf n)) (d : ℕ
     -- a tick
     on-tick : (room mode : ℕ) → ((c : ℕ) → member c (controllersOf n) ≡ true → waiting c h ≡ false) → s .wanted ≡ Mode.Full
         → OnState n d (tickPart n s .state) (entry (tick room) mode (tickPart n s) ∷ h) × (any (is 6 (n .handle) 2) (tickPart n s .records) ≡ eqb (d + 2) (suc (tally ticked h)))
-    unfolding tally waiting afterMove isDone
+    unfolding tally waiting afterMove
     on-tick room mode an full = let x = after (λ c q. rw q refl) in (x .0, move-says-full n (s .step) (s .told) (decides n s) ∙ x .1)
       where
         waits : ℕ → Bool
@@ -266,8 +271,8 @@ module _ (n : Network) (g : InRange n) (f : Distinct (controllersOf n)) (d : ℕ
         after =
             subst (λ (wanted : Mode). OnAfter n d (s .step) (s .told) (s .asked) (s .answers) (s .count) (tally ticked h) waits
             (decision (s .step) wanted (finished n s) (any isRefusal (heardOf n s)) (reaches n s) (outfitOf (n .transceiver) (n .partial)))) (sym full)
-            (on-move (s .told) (s .asked) (s .reported) (any isRefusal (heardOf n s)) (s .answers) (s .count) (tally ticked h) (λ (c : ℕ). waiting c h) waits
-            (outfitOf (n .transceiver) (n .partial)) (s .step) o an)
+            (on-move (s .told) (s .asked) (finished n s) (any isRefusal (heardOf n s)) (reaches n s) (s .answers) (s .count) (tally ticked h) (λ (c : ℕ). waiting c h) waits
+            (outfitOf (n .transceiver) (n .partial)) (s .step) (finished-just n s) (reaches-just n s) o an)
 
     -- all calls
     on-call : (needs : ℕ) → Kept n s → (call : Call) → Goes call (partOf needs n s call)

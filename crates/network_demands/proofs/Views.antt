@@ -6,6 +6,7 @@ use mathlib.Core.Path.{_≡_, refl, sym, ap, subst, _∙_}
 use mathlib.Core.List.{[], _∷_}
 use mathlib.Core.Bool.{Bool, true, false, _&&_, cond, and-false, false≢true, true≢false}
 use lib.Dec.{eqb, ltb}
+use Rattle.lists.proofs.Any.{and-both}
 use Rattle.lists.specs.Lists.{any}
 use Rattle.records.specs.declared.Mode.{Mode}
 use Rattle.records.specs.Records.{modeNumber}
@@ -34,10 +35,6 @@ use Rattle.network_demands.specs.Own.{Part, unmoved, moved, requestPart,
 pub split : {A : Type 0} (P : A → Type 0) (b : Bool) {x y : A} → (b ≡ true → P x) → (b ≡ false → P y) → P (cond b x y)
 split P true p q = p refl
 split P false p q = q refl
-
-pub and-both : (a b : Bool) → a && b ≡ true → (a ≡ true) × (b ≡ true)
-and-both true b e = (refl, e)
-and-both false b e = absurd (false≢true e)
 
 -- ---- entries
 -- the entry of a call by what it makes of the network; the polled mode is any

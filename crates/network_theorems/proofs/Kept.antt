@@ -3,7 +3,7 @@ use Prim.Native.Nat.{ℕ, zero, suc, _<_}
 use native.Mathlib.Omega.{arith}
 use mathlib.Core.Path.{_≡_, refl, sym, ap, _∙_}
 use mathlib.Core.List.{List}
-use mathlib.Core.Bool.{Bool, true, false, cond}
+use mathlib.Core.Bool.{Bool, true, false, cond, false≢true, true≢false}
 use lib.Dec.{eqb}
 use lib.ListN.{length, take, set}
 use lib.Seq.{take-nil}
@@ -99,9 +99,6 @@ not-silent f = absurd (let z : _≡_ {A = ℕ} 0 1 = cc in omega arith)
 full-not-silent : {A : Type 0} (f : Mode.Full ≡ Mode.Silent) → A
 full-not-silent f = absurd (let z : _≡_ {A = ℕ} 0 1 = cc in omega arith)
 
-false-true : {A : Type 0} (f : false ≡ true) → A
-false-true f = absurd (let z : _≡_ {A = ℕ} 0 1 = cc in omega arith)
-
 wanted-fits : ByMove WantedFits
 wanted-fits = record {
   stays = λ step wanted partial e f. e f;
@@ -117,21 +114,21 @@ wanted-fits = record {
   waiting-silent = λ t partial e f. refl;
   waits = λ wanted partial e f. refl;
   goes-down = λ step a partial e f. not-silent f;
-  standby-ends = λ wanted partial e f. false-true (e f);
-  sleep-ends = λ wanted partial e f. false-true (e f);
-  check-ends = λ wanted partial e f. false-true (e f);
+  standby-ends = λ wanted partial e f. absurd (false≢true (e f));
+  sleep-ends = λ wanted partial e f. absurd (false≢true (e f));
+  check-ends = λ wanted partial e f. absurd (false≢true (e f));
   to-normal = λ partial e f. full-not-silent f;
   to-stopped = λ partial e f. full-not-silent f;
-  normal-stopped = λ wanted partial e f. false-true (e f);
-  stopped-started = λ wanted partial e f. false-true (e f);
-  cleared-stopped = λ wanted partial e f. false-true (e f);
-  stopped-sleep = λ wanted partial e f. false-true (e f);
-  stopped-standby = λ wanted partial e f. false-true (e f);
-  standby-sleep = λ wanted partial e f. false-true (e f);
-  sleep-standby = λ wanted partial e f. false-true (e f);
-  sleep-check = λ wanted partial e f. false-true (e f);
-  sleep-again = λ wanted partial e f. false-true (e f);
-  again-clear = λ wanted partial e f. false-true (e f);
+  normal-stopped = λ wanted partial e f. absurd (false≢true (e f));
+  stopped-started = λ wanted partial e f. absurd (false≢true (e f));
+  cleared-stopped = λ wanted partial e f. absurd (false≢true (e f));
+  stopped-sleep = λ wanted partial e f. absurd (false≢true (e f));
+  stopped-standby = λ wanted partial e f. absurd (false≢true (e f));
+  standby-sleep = λ wanted partial e f. absurd (false≢true (e f));
+  sleep-standby = λ wanted partial e f. absurd (false≢true (e f));
+  sleep-check = λ wanted partial e f. absurd (false≢true (e f));
+  sleep-again = λ wanted partial e f. absurd (false≢true (e f));
+  again-clear = λ wanted partial e f. absurd (false≢true (e f));
 }
 
 -- ---- asked, answers, report: no and blank in a step that asks nothing
@@ -143,9 +140,6 @@ FormFits step wanted m =
     → isAsking (stepAfter m step partial) ≡ false
     → (asksAfter m asked ≡ false) × (cond (keepsAnswers m) answers blankAnswers ≡ blankAnswers) × (cond (keepsAnswers m) reported false ≡ false)
 
-true-false : {A : Type 0} (f : true ≡ false) → A
-true-false f = absurd (let z : _≡_ {A = ℕ} 0 1 = cc in omega arith)
-
 first-down-asks : (partial : Bool) → isAsking (firstDown partial) ≡ true
 first-down-asks true = refl
 first-down-asks false = refl
@@ -153,7 +147,7 @@ first-down-asks false = refl
 form-fits : ByMove FormFits
 form-fits = record {
   stays = λ step wanted partial asked reported answers e f. e f;
-  asks-again = λ step wanted a partial asked reported answers e f. true-false (sym a ∙ f);
+  asks-again = λ step wanted a partial asked reported answers e f. absurd (true≢false (sym a ∙ f));
   checking-counts = λ t wanted partial asked reported answers e f. e refl;
   waiting-counts = λ t wanted partial asked reported answers e f. e refl;
   passes = λ t wanted partial asked reported answers e f. (refl, refl, refl);
@@ -164,22 +158,22 @@ form-fits = record {
   full-silent = λ partial asked reported answers e f. (refl, refl, refl);
   waiting-silent = λ t partial asked reported answers e f. (refl, refl, refl);
   waits = λ wanted partial asked reported answers e f. (refl, refl, refl);
-  goes-down = λ step a partial asked reported answers e f. true-false (sym (first-down-asks partial) ∙ f);
+  goes-down = λ step a partial asked reported answers e f. absurd (true≢false (sym (first-down-asks partial) ∙ f));
   standby-ends = λ wanted partial asked reported answers e f. (refl, refl, refl);
   sleep-ends = λ wanted partial asked reported answers e f. (refl, refl, refl);
   check-ends = λ wanted partial asked reported answers e f. (refl, refl, refl);
-  to-normal = λ partial asked reported answers e f. true-false f;
-  to-stopped = λ partial asked reported answers e f. true-false f;
-  normal-stopped = λ wanted partial asked reported answers e f. true-false f;
-  stopped-started = λ wanted partial asked reported answers e f. true-false f;
-  cleared-stopped = λ wanted partial asked reported answers e f. true-false f;
-  stopped-sleep = λ wanted partial asked reported answers e f. true-false f;
-  stopped-standby = λ wanted partial asked reported answers e f. true-false f;
-  standby-sleep = λ wanted partial asked reported answers e f. true-false f;
-  sleep-standby = λ wanted partial asked reported answers e f. true-false f;
-  sleep-check = λ wanted partial asked reported answers e f. true-false f;
-  sleep-again = λ wanted partial asked reported answers e f. true-false f;
-  again-clear = λ wanted partial asked reported answers e f. true-false f;
+  to-normal = λ partial asked reported answers e f. absurd (true≢false f);
+  to-stopped = λ partial asked reported answers e f. absurd (true≢false f);
+  normal-stopped = λ wanted partial asked reported answers e f. absurd (true≢false f);
+  stopped-started = λ wanted partial asked reported answers e f. absurd (true≢false f);
+  cleared-stopped = λ wanted partial asked reported answers e f. absurd (true≢false f);
+  stopped-sleep = λ wanted partial asked reported answers e f. absurd (true≢false f);
+  stopped-standby = λ wanted partial asked reported answers e f. absurd (true≢false f);
+  standby-sleep = λ wanted partial asked reported answers e f. absurd (true≢false f);
+  sleep-standby = λ wanted partial asked reported answers e f. absurd (true≢false f);
+  sleep-check = λ wanted partial asked reported answers e f. absurd (true≢false f);
+  sleep-again = λ wanted partial asked reported answers e f. absurd (true≢false f);
+  again-clear = λ wanted partial asked reported answers e f. absurd (true≢false f);
 }
 
 slots-kept : (k : ℕ) (b : Bool) (answers : List Heard) → answers ≡ padded 4 (heard Answer.Pending) (take k answers)
@@ -263,7 +257,7 @@ taken-asks s report e = by-test (s .asked) e
   where
     by-test : (b : Bool) → cond b (awaits (asksFor (s .step)) report) false ≡ true → isAsking (s .step) ≡ true
     by-test true f = awaited-asks (asksFor (s .step)) report f
-    by-test false f = false-true f
+    by-test false f = absurd (false≢true f)
 
 pub report-kept : (n : Network) (s : State) (report : Report) → takesReport s report ≡ true → Kept n s → Kept n (afterReport s)
 unfolding afterReport
@@ -274,7 +268,7 @@ report-kept n s report e k =
       wanted = k .wanted;
       asked = k .asked;
       answers = k .answers;
-      reported = λ f. true-false (sym a ∙ f);
+      reported = λ f. absurd (true≢false (sym a ∙ f));
       slots = k .slots;
     }
 
@@ -295,7 +289,7 @@ answer-by n s id mode ok true g e k f =
       told = k .told;
       wanted = k .wanted;
       asked = k .asked;
-      answers = λ d. true-false (sym a ∙ d);
+      answers = λ d. absurd (true≢false (sym a ∙ d));
       reported = k .reported;
       slots = padded-store 4 (heard Answer.Pending) (heard (answerOf ok)) (s .answers) (n .count) _ (k .slots) (slot-used n s id g k f);
     }

@@ -3,11 +3,11 @@ use Prim.Native.Nat.{ℕ, _+_, _≤_, _<_}
 use native.Mathlib.Omega.{arith}
 use mathlib.Core.Path.{_≡_, refl, sym, ap, subst, _∙_}
 use mathlib.Core.List.{List, [], _∷_, _++_, append-nil, append-assoc}
-use mathlib.Core.Bool.{Bool, true, false, _||_}
+use mathlib.Core.Bool.{Bool, true, false, _||_, or-false}
 use lib.ListN.{length}
 use lib.Seq.{append-snoc}
 use Rattle.lists.specs.Lists.{any}
-use Rattle.lists.proofs.Any.{any-append, or-false}
+use Rattle.lists.proofs.Any.{any-append}
 use Rattle.settings.specs.declared.Transceiver.{Transceiver}
 use Rattle.settings.specs.declared.Transceiver.the-variants.{Absent, Present}
 use Rattle.settings.specs.declared.Network.{Network}

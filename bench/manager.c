@@ -1,0 +1,306 @@
+/* The rules of document 01 in C, written by hand for speed: tables by step, answers as bits, networks found by an index of their ids. */
+#include "manager.h"
+#include <string.h>
+
+enum {
+    NO_COMMUNICATION, TRANSCEIVER_NORMAL, CONTROLLERS_STOPPED, CONTROLLERS_STARTED, CHECKING, FULL_STEP, RESTARTING, WAITING, SILENT_STEP,
+    CLEAR_WAKE, DOWN_STOPPED, TRANSCEIVER_STANDBY, CONTROLLERS_SLEEP, CHECK_WAKE, CHECK_WAKE_AGAIN
+};
+enum { NO, SILENT, FULL };
+enum { ASK_NOTHING, ASK_CONTROLLERS, ASK_TRANSCEIVER, ASK_CLEAR, ASK_CHECK };
+enum { CONTROLLER = 1, TRANSCEIVER, PDU, CLEAR, CHECK, TELL, NOTE, REPORT };
+enum { NOT_READY = 1, NO_HANDLE = 3, NO_CONTROLLER, NO_TRANSCEIVER, NOT_UP = 8, TOO_SHORT = 0x20, OUT_OF_RANGE, NOT_TAKEN };
+
+static const uint8_t ASKS[] = {
+    ASK_NOTHING, ASK_TRANSCEIVER, ASK_CONTROLLERS, ASK_CONTROLLERS, ASK_NOTHING, ASK_NOTHING, ASK_CONTROLLERS, ASK_NOTHING, ASK_NOTHING,
+    ASK_CLEAR, ASK_CONTROLLERS, ASK_TRANSCEIVER, ASK_CONTROLLERS, ASK_CHECK, ASK_CHECK
+};
+/* The mode that a step asks for: of controllers stopped 0, started 1, sleep 2; of the transceiver normal 0, standby 1. */
+static const uint8_t MODES[] = { 0, 0, 0, 1, 0, 0, 1, 0, 0, 0, 0, 1, 2, 0, 0 };
+
+struct records {
+    uint8_t *out;
+    size_t count;
+};
+
+static inline void put(struct records *to, uint8_t kind, uint8_t target, uint8_t argument) {
+    uint8_t *at = to->out + RECORD * to->count++;
+    at[0] = kind;
+    at[1] = target;
+    at[2] = argument;
+}
+
+static inline void put_each(struct records *to, const struct network *network, uint8_t kind, uint8_t argument) {
+    for (unsigned i = 0; i < network->controllers; i++) put(to, kind, network->controller[i], argument);
+}
+
+static inline void tell(struct records *to, struct network *network, uint8_t mode) {
+    put(to, TELL, network->handle, mode);
+    network->told = mode;
+}
+
+static inline void forget(struct network *network) {
+    network->asked = network->okay = network->refused = network->reported = 0;
+}
+
+static inline void move(struct network *network, uint8_t step) {
+    network->step = step;
+    network->ticks = 0;
+    forget(network);
+}
+
+static inline int is_up(uint8_t step) { return step >= CHECKING && step <= SILENT_STEP; }
+
+static inline int is_done(const struct network *network) {
+    if (!network->asked) return 0;
+    switch (ASKS[network->step]) {
+    case ASK_NOTHING: return 0;
+    case ASK_CONTROLLERS: return network->okay == (1u << network->controllers) - 1;
+    default: return network->reported;
+    }
+}
+
+static void ask(struct records *to, struct network *network) {
+    uint8_t mode = MODES[network->step];
+    switch (ASKS[network->step]) {
+    case ASK_NOTHING: return;
+    case ASK_CONTROLLERS: put_each(to, network, CONTROLLER, mode); break;
+    case ASK_TRANSCEIVER: put(to, TRANSCEIVER, network->transceiver, mode); break;
+    case ASK_CLEAR: put(to, CLEAR, network->transceiver, 0); break;
+    case ASK_CHECK: put(to, CHECK, network->transceiver, 0); break;
+    }
+    network->asked = 1;
+}
+
+static void enter(struct records *to, struct network *network, uint8_t step) {
+    move(network, step);
+    ask(to, network);
+}
+
+static void enter_full(struct records *to, struct network *network) {
+    put_each(to, network, PDU, 0);
+    tell(to, network, FULL);
+    put(to, NOTE, network->handle, 2);
+    move(network, CHECKING);
+}
+
+static void enter_silent(struct records *to, struct network *network) {
+    put_each(to, network, PDU, 1);
+    tell(to, network, SILENT);
+    put(to, NOTE, network->handle, 1);
+    move(network, SILENT_STEP);
+}
+
+static void enter_no(struct records *to, struct network *network) {
+    tell(to, network, NO);
+    move(network, NO_COMMUNICATION);
+}
+
+static void go_down(struct records *to, struct network *network) {
+    put(to, NOTE, network->handle, 0);
+    if (network->told == FULL) tell(to, network, SILENT);
+    enter(to, network, network->partial ? CLEAR_WAKE : DOWN_STOPPED);
+}
+
+static void go_on(struct records *to, struct network *network, uint8_t step) {
+    if (is_done(network)) enter(to, network, step);
+    else ask(to, network);
+}
+
+static void end_down(struct records *to, struct network *network) {
+    if (is_done(network)) enter_no(to, network);
+    else ask(to, network);
+}
+
+static inline uint16_t delay(const struct network *network) {
+    return network->bus_offs > network->threshold ? network->long_delay : network->short_delay;
+}
+
+static void tick_network(struct records *to, struct network *network) {
+    uint8_t step = network->step;
+    if (network->wanted == NO && step >= TRANSCEIVER_NORMAL && step <= SILENT_STEP) {
+        go_down(to, network);
+        return;
+    }
+    switch (step) {
+    case NO_COMMUNICATION:
+        if (network->wanted == FULL) enter(to, network, network->has_transceiver ? TRANSCEIVER_NORMAL : CONTROLLERS_STOPPED);
+        break;
+    case TRANSCEIVER_NORMAL: go_on(to, network, CONTROLLERS_STOPPED); break;
+    case CONTROLLERS_STOPPED: go_on(to, network, CONTROLLERS_STARTED); break;
+    case CONTROLLERS_STARTED:
+        if (is_done(network)) enter_full(to, network);
+        else ask(to, network);
+        break;
+    case CHECKING:
+        if (network->wanted == SILENT) {
+            enter_silent(to, network);
+        } else if (++network->ticks >= network->ensure) {
+            put(to, REPORT, network->handle, 0);
+            network->bus_offs = 0;
+            move(network, FULL_STEP);
+        }
+        break;
+    case FULL_STEP:
+        if (network->wanted == SILENT) enter_silent(to, network);
+        break;
+    case RESTARTING:
+        if (is_done(network)) {
+            put_each(to, network, PDU, 1);
+            move(network, WAITING);
+        } else {
+            ask(to, network);
+        }
+        break;
+    case WAITING:
+        if (++network->ticks >= delay(network)) {
+            if (network->wanted == FULL) enter_full(to, network);
+            else enter_silent(to, network);
+        }
+        break;
+    case SILENT_STEP:
+        if (network->wanted == FULL) enter_full(to, network);
+        break;
+    case CLEAR_WAKE: go_on(to, network, DOWN_STOPPED); break;
+    case DOWN_STOPPED: go_on(to, network, network->partial ? TRANSCEIVER_STANDBY : CONTROLLERS_SLEEP); break;
+    case TRANSCEIVER_STANDBY:
+        if (network->partial) go_on(to, network, CONTROLLERS_SLEEP);
+        else end_down(to, network);
+        break;
+    case CONTROLLERS_SLEEP:
+        if (network->partial) {
+            if (network->refused) enter(to, network, CHECK_WAKE_AGAIN);
+            else go_on(to, network, CHECK_WAKE);
+        } else if (network->has_transceiver) {
+            go_on(to, network, TRANSCEIVER_STANDBY);
+        } else {
+            end_down(to, network);
+        }
+        break;
+    case CHECK_WAKE: end_down(to, network); break;
+    case CHECK_WAKE_AGAIN: go_on(to, network, CLEAR_WAKE); break;
+    }
+}
+
+struct outcome manager_tick(struct manager *manager, uint8_t *out, size_t room) {
+    if (!manager->started) return (struct outcome){ NOT_READY, 0 };
+    if (room < manager->tick_room) return (struct outcome){ TOO_SHORT, 0 };
+    struct records to = { out, 0 };
+    for (unsigned i = 0; i < manager->count; i++) tick_network(&to, &manager->network[i]);
+    return (struct outcome){ 0, to.count };
+}
+
+struct outcome manager_bus_off(struct manager *manager, uint8_t id, uint8_t *out, size_t room) {
+    if (!manager->started) return (struct outcome){ NOT_READY, 0 };
+    if (room < BUS_OFF_ROOM) return (struct outcome){ TOO_SHORT, 0 };
+    unsigned found = manager->by_controller[id];
+    if (!found) return (struct outcome){ NO_CONTROLLER, 0 };
+    struct network *network = &manager->network[(found - 1) / MOST_CONTROLLERS];
+    struct records to = { out, 0 };
+    if (is_up(network->step)) {
+        if (network->bus_offs < 255) network->bus_offs++;
+        put(&to, REPORT, network->handle, 1);
+        tell(&to, network, SILENT);
+        put(&to, NOTE, network->handle, 3);
+        move(network, RESTARTING);
+    } else if (network->step == CONTROLLERS_STARTED) {
+        forget(network);
+    } else {
+        return (struct outcome){ NOT_TAKEN, 0 };
+    }
+    return (struct outcome){ 0, to.count };
+}
+
+uint8_t manager_controller_answer(struct manager *manager, uint8_t id, uint8_t mode, uint8_t okay) {
+    if (!manager->started) return NOT_READY;
+    unsigned found = manager->by_controller[id];
+    if (!found) return NO_CONTROLLER;
+    if (mode > 2 || okay > 1) return OUT_OF_RANGE;
+    struct network *network = &manager->network[(found - 1) / MOST_CONTROLLERS];
+    if (!network->asked || ASKS[network->step] != ASK_CONTROLLERS || MODES[network->step] != mode) return NOT_TAKEN;
+    uint8_t bit = 1u << (found - 1) % MOST_CONTROLLERS;
+    network->okay = okay ? network->okay | bit : network->okay & ~bit;
+    network->refused = okay ? network->refused & ~bit : network->refused | bit;
+    return 0;
+}
+
+static uint8_t report(struct manager *manager, unsigned found, uint8_t asked, uint8_t mode) {
+    struct network *network = &manager->network[found - 1];
+    if (!network->asked || ASKS[network->step] != asked || MODES[network->step] != mode) return NOT_TAKEN;
+    network->reported = 1;
+    return 0;
+}
+
+uint8_t manager_transceiver_mode(struct manager *manager, uint8_t id, uint8_t mode) {
+    if (!manager->started) return NOT_READY;
+    unsigned found = manager->by_transceiver[id];
+    if (!found) return NO_TRANSCEIVER;
+    if (mode > 2) return OUT_OF_RANGE;
+    return report(manager, found, ASK_TRANSCEIVER, mode);
+}
+
+uint8_t manager_clear_done(struct manager *manager, uint8_t id) {
+    if (!manager->started) return NOT_READY;
+    unsigned found = manager->by_transceiver[id];
+    return found ? report(manager, found, ASK_CLEAR, 0) : NO_TRANSCEIVER;
+}
+
+uint8_t manager_check_done(struct manager *manager, uint8_t id) {
+    if (!manager->started) return NOT_READY;
+    unsigned found = manager->by_transceiver[id];
+    return found ? report(manager, found, ASK_CHECK, 0) : NO_TRANSCEIVER;
+}
+
+uint8_t manager_request(struct manager *manager, uint8_t handle, uint8_t mode) {
+    if (!manager->started) return NOT_READY;
+    unsigned found = manager->by_handle[handle];
+    if (!found) return NO_HANDLE;
+    if (mode > FULL) return OUT_OF_RANGE;
+    struct network *network = &manager->network[found - 1];
+    if (mode == SILENT && !is_up(network->step)) return NOT_UP;
+    network->wanted = mode;
+    return 0;
+}
+
+static uint16_t number(const uint8_t *at) { return (uint16_t)(at[0] << 8 | at[1]); }
+
+/* One field of the sheet: its tag and its value. */
+static void take_field(struct manager *manager, struct network *network, uint8_t tag, const uint8_t *value) {
+    unsigned place = (unsigned)(network - manager->network);
+    switch (tag) {
+    case 1:
+        network->handle = value[0];
+        manager->by_handle[value[0]] = (uint8_t)(1 + place);
+        break;
+    case 2:
+        manager->by_controller[value[0]] = (uint8_t)(1 + MOST_CONTROLLERS * place + network->controllers);
+        network->controller[network->controllers++] = value[0];
+        break;
+    case 3:
+        network->transceiver = value[0];
+        network->has_transceiver = 1;
+        manager->by_transceiver[value[0]] = (uint8_t)(1 + place);
+        break;
+    case 4:
+        network->short_delay = number(value);
+        network->long_delay = number(value + 2);
+        network->ensure = number(value + 4);
+        break;
+    case 5: network->threshold = value[0]; break;
+    case 6: network->partial = value[0]; break;
+    }
+}
+
+void manager_start(struct manager *manager, const uint8_t *sheet, size_t length) {
+    memset(manager, 0, sizeof *manager);
+    for (size_t at = 0; at + 3 <= length; at += 3u + number(sheet + at + 1)) {
+        if (sheet[at] == 1) manager->count++;
+        take_field(manager, &manager->network[manager->count - 1], sheet[at], sheet + at + 3);
+    }
+    for (unsigned i = 0; i < manager->count; i++) {
+        struct network *network = &manager->network[i];
+        network->step = network->partial ? CLEAR_WAKE : DOWN_STOPPED;
+        manager->tick_room += RECORD * (network->controllers + 2);
+    }
+    manager->started = 1;
+}

@@ -1,0 +1,835 @@
+#!/usr/bin/env python3
+"""Checks `tools/recording`: scripts to bytes, bytes to scripts, and the output of cantrace in words.
+
+The bytes that a form has to give are written here in hexadecimal or made by the model; outputs to be explained are the stored
+ones or the model's. The program `cantrace` is not needed.
+"""
+
+import os
+import re
+import subprocess
+import sys
+import tempfile
+import unittest
+from pathlib import Path
+from random import Random
+
+import batches
+import examples
+import model
+import random_traces
+import trace_cases
+from model import EventTag, Refusal, Tag
+from traces import LARGEST, SHEET, TICK, WHOLE_CASE, field, network
+
+sys.path.append(str(examples.ROOT / "tools"))
+
+from recording_explain import explain  # found by the line above
+from recording_output import NotItsOutput
+from recording_script import ScriptError, recording_of, script_of
+
+COMMAND = examples.ROOT / "tools" / "recording"
+CASES = trace_cases.all_cases()
+STORED_OUTPUTS = batches.split_outputs((trace_cases.PRODUCT_FOLDER / "stdout").read_text(encoding="ascii"))
+SEED = 3
+SHEET_LINE = "network 7 controllers 3 delays 2 5 3 threshold 1"
+
+
+def written(script):
+    """The bytes of a script that is given as text."""
+    return recording_of(script.encode("utf-8"))
+
+
+def run(*arguments, data=b"", folder=None):
+    """Run the command itself."""
+    command = [sys.executable, str(COMMAND), *arguments]
+    return subprocess.run(command, input=data, capture_output=True, cwd=folder, timeout=60, check=False)
+
+
+# ---------------------------------------------------------------------------
+# Both ways
+# ---------------------------------------------------------------------------
+
+
+def random_fields(random):
+    """Fields of all tags, most of them with the right length, some cut."""
+    data = b""
+    for _ in range(random.randint(0, 12)):
+        tag = random.choice((*model.LENGTH_OF_TAG, *model.LENGTH_OF_EVENT, random.randrange(256)))
+        right = model.LENGTH_OF_TAG.get(tag, model.LENGTH_OF_EVENT.get(tag, 0))
+        length = random.choice((right, right, right, right, right, right, random.randrange(4), 300))
+        data += field(tag, *(random.choice((0, 1, 2, 3, 255, random.randrange(256))) for _ in range(length)))
+    return data[:random.choice((len(data), len(data), random.randint(0, len(data))))]
+
+
+class BothWaysTest(unittest.TestCase):
+    """Any bytes become a script that stands for just these bytes, and this script is the only one that reading gives."""
+
+    def check(self, data):
+        script = script_of(data)
+        self.assertEqual(written(script), data)
+        self.assertEqual(script_of(written(script)), script)
+
+    def test_stored_cases(self):
+        self.assertEqual(len(CASES), len(STORED_OUTPUTS))
+        for case in CASES:
+            with self.subTest(case.name):
+                self.check(case.data)
+
+    def test_short_strings(self):
+        self.check(b"")
+        for first in range(256):
+            self.check(bytes([first]))
+            self.check(bytes([first, 0, 0]))
+            self.check(bytes([first, 0, 1, 255 - first]))
+            self.check(SHEET + bytes([first, 0]))
+
+    def test_every_value_of_every_field(self):
+        for tag, length in {**model.LENGTH_OF_TAG, **model.LENGTH_OF_EVENT}.items():
+            for place in range(length):
+                for number in range(256):
+                    self.check(field(tag, *(number if index == place else 1 for index in range(length))))
+
+    def test_random_strings(self):
+        random = Random(SEED)
+        for _ in range(600):
+            self.check(random.randbytes(random.randrange(80)))
+            self.check(random_fields(random))
+            self.check(SHEET + random_fields(random))
+
+    def test_random_traces(self):
+        random = Random(SEED)
+        for _ in range(150):
+            self.check(random_traces.Driver(random).run(60))
+
+    def test_longer_than_the_program_takes(self):
+        self.check(Random(SEED).randbytes(70000))
+        self.check(SHEET + TICK * 30000)
+        self.check(SHEET + (field(9) + TICK) * 12000)
+
+
+class FewRawBytesTest(unittest.TestCase):
+    """What has a form is read as its form."""
+
+    def test_good_traces_have_no_raw_bytes(self):
+        random = Random(SEED)
+        for _ in range(50):
+            self.assertNotIn("bytes", script_of(random_traces.Driver(random).run(40)))
+
+    def test_a_good_trace_has_a_line_for_each_network_and_event(self):
+        for case, output in zip(CASES, STORED_OUTPUTS):
+            lines = output.splitlines()
+            if lines[0].startswith("config 0 ") and not lines[-1].startswith("stop"):
+                forms = [line for line in script_of(case.data).splitlines() if line]
+                networks = [line for line in forms if line.startswith("network ")]
+                self.assertEqual(f"config 0 {len(networks)}", lines[0])
+                self.assertEqual(len(forms) - len(networks), len(lines) - 1)
+
+    def test_raw_bytes_are_bad_fields_only(self):
+        script = script_of(bytes.fromhex("09000100 01000107 16000101 160000 1000020702 1600"))
+        expected = "bytes 09 00 01 00  # unknown tag\nhandle 7\n\nbytes 16 00 01 01  # wrong length\ntick\nwant 7 full\nbytes 16 00  # cut field\n"
+        self.assertEqual(script, expected)
+
+    def test_long_raw_bytes_are_broken(self):
+        lines = script_of(field(9, *range(30))).splitlines()
+        self.assertEqual(lines[0], "bytes 09 00 1e 00 01 02 03 04 05 06 07 08 09 0a 0b 0c  # unknown tag")
+        self.assertEqual(lines[2], "bytes 1d")
+
+    def test_largest_sheet(self):
+        lines = script_of(model.write_sheet(LARGEST)).splitlines()
+        self.assertEqual(lines[1], "network 254 controllers 4 5 6 7 transceiver 6 delays 2 3 2 threshold 1 partial")
+        self.assertEqual(len(lines), 8)
+
+
+# ---------------------------------------------------------------------------
+# The forms
+# ---------------------------------------------------------------------------
+
+# A line, the bytes that it stands for, and the line that reading gives where it is another one.
+FORMS = [
+    (SHEET_LINE, "01000107 02000103 040006000200050003 05000101 06000100"),
+    ("network 9 controllers 1 2 transceiver 4 delays 2 5 3 threshold 1 partial",
+     "01000109 02000101 02000102 03000104 040006000200050003 05000101 06000101"),
+    ("network 9 controllers 1 transceiver 4 delays 2 5 3 threshold 1",
+     "01000109 02000101 03000104 040006000200050003 05000101 06000100"),
+    ("network 9 controllers 1 delays 2 5 3 threshold 1 partial", "01000109 02000101 040006000200050003 05000101 06000101"),
+    ("network 0 controllers 0 1 2 3 4 delays 0 65535 258 threshold 255 partial 2",
+     "01000100 02000100 02000101 02000102 02000103 02000104 0400060000ffff0102 050001ff 06000102"),
+    ("network 255 controllers 255 255 transceiver 255 delays 1 1 1 threshold 0 partial 255",
+     "010001ff 020001ff 020001ff 030001ff 040006000100010001 05000100 060001ff"),
+    ("network 7 controllers 3 delays 2 5 3 threshold 1 partial 0", "01000107 02000103 040006000200050003 05000101 06000100", SHEET_LINE),
+    ("network 7 controllers 3 delays 2 5 3 threshold 1 partial 1", "01000107 02000103 040006000200050003 05000101 06000101",
+     SHEET_LINE + " partial"),
+    ("handle 7", "01000107"),
+    ("controller 32", "02000120"),
+    ("transceiver 8", "03000108"),
+    ("delays 1 256 65535", "04000600010100ffff"),
+    ("threshold 255", "050001ff"),
+    ("partial 0", "06000100"),
+    ("partial", "06000101"),
+    ("partial 1", "06000101", "partial"),
+    ("partial 2", "06000102"),
+    ("want 7 no", "1000020700"),
+    ("want 7 silent", "1000020701"),
+    ("want 7 full", "1000020702"),
+    ("want 255 mode 5", "100002ff05"),
+    ("want 7 mode 2", "1000020702", "want 7 full"),
+    ("bus-off 3", "11000103"),
+    ("bus-off 255", "110001ff"),
+    ("answer 3 stopped refused", "120003030000"),
+    ("answer 3 started ok", "120003030101"),
+    ("answer 31 sleep ok", "1200031f0201"),
+    ("answer 3 mode 7 value 2", "120003030702"),
+    ("answer 3 mode 5 ok 2", "120003030502", "answer 3 mode 5 value 2"),
+    ("answer 3 mode 255 ok", "12000303ff01"),
+    ("answer 3 sleep value 255", "1200030302ff"),
+    ("answer 3 mode 1 value 0", "120003030100", "answer 3 started refused"),
+    ("answer 3 started ok 0", "120003030100", "answer 3 started refused"),
+    ("transceiver-mode 4 normal", "1300020400"),
+    ("transceiver-mode 4 standby", "1300020401"),
+    ("transceiver-mode 4 mode 2", "1300020402"),
+    ("clear-done 4", "14000104"),
+    ("check-done 4", "15000104"),
+    ("tick", "160000"),
+    ("poll 7", "17000107"),
+    ("poll 007", "17000107", "poll 7"),
+    ("bytes 09 00 01 ff", "090001ff", "bytes 09 00 01 ff  # unknown tag"),
+    ("bytes 09 00 01 FF", "090001ff", "bytes 09 00 01 ff  # unknown tag"),
+    ("bytes 16", "16", "bytes 16  # cut field"),
+    ("bytes 16 00 00", "160000", "tick"),
+    ("bytes 17 00 00", "170000", "bytes 17 00 00  # wrong length"),
+]
+
+# Whole scripts, and their bytes.
+LAYOUTS = [
+    ("", ""),
+    ("\n\n   \n\t\n", ""),
+    ("# only a comment", ""),
+    ("tick", "160000"),
+    ("  tick  # a comment # and more\n\n#tick\ntick#\n", "160000160000"),
+    ("\tpoll\t 7\t\n", "17000107"),
+    ("tick\r\npoll 7\r\n", "16000017000107"),
+    ("tick\r\n\r\n# one\r\ntick", "160000160000"),
+    ("\ufefftick\n", "160000"),
+    ("tick # \u00e4 \u1234\n", "160000"),
+    ("bytes 16\nbytes 00 00\n", "160000"),
+    ("tick\nhandle 7\nnetwork 1 controllers 2 delays 1 1 1 threshold 0\n", "160000 01000107 01000101 02000102 040006000100010001 05000100 06000100"),
+]
+
+
+class FormsTest(unittest.TestCase):
+    """Each form of the language, both ways."""
+
+    def test_each_form(self):
+        for line, data, *other in FORMS:
+            with self.subTest(line):
+                self.assertEqual(written(line + "\n").hex(), data.replace(" ", ""))
+                self.assertEqual(script_of(bytes.fromhex(data)), (other[0] if other else line) + "\n")
+
+    def test_layout_of_scripts(self):
+        for script, data in LAYOUTS:
+            with self.subTest(script):
+                self.assertEqual(written(script), bytes.fromhex(data))
+
+    def test_every_field_has_a_form(self):
+        first_bytes = {bytes.fromhex(data)[0] for line, data, *_ in FORMS if not line.startswith(("bytes", "network"))}
+        self.assertEqual(first_bytes, {*model.LENGTH_OF_TAG, *model.LENGTH_OF_EVENT})
+
+    def test_sheet_and_events_stand_apart(self):
+        self.assertEqual(script_of(SHEET + SHEET + TICK + TICK + SHEET), f"{SHEET_LINE}\n{SHEET_LINE}\n\ntick\ntick\n\n{SHEET_LINE}\n")
+
+
+def random_mode(random, words):
+    """A mode: a word and its number, or a number."""
+    if random.random() < 0.7:
+        return random.choice(list(words.items()))
+    number = random.randrange(256)
+    return f"mode {number}", number
+
+
+def random_network(random):
+    """A network line with numbers from the whole ranges, and its bytes by the model."""
+    ids = [random.randrange(256) for _ in range(random.randint(1, 6))]
+    transceiver = random.choice((None, random.randrange(256)))
+    times = [random.choice((0, 1, 255, 256, 65535, random.randrange(65536))) for _ in range(3)]
+    handle, threshold, partial = random.randrange(256), random.randrange(256), random.choice((0, 1, 7))
+    words = ["network", handle, "controllers", *ids]
+    words += [] if transceiver is None else ["transceiver", transceiver]
+    words += ["delays", *times, "threshold", threshold] + {0: [], 1: ["partial"], 7: ["partial", 7]}[partial]
+    return " ".join(map(str, words)), model.write_network(model.Settings(handle, ids, transceiver, *times, threshold, partial))
+
+
+def random_line(random):
+    """A line of a script, and its bytes by the model."""
+    number = random.randrange(256)
+    name = random.choice(("network", "want", "answer", "transceiver-mode", "bus-off", "clear-done", "check-done", "poll", "tick", "bytes"))
+    if name == "network":
+        return random_network(random)
+    if name == "want":
+        words, mode = random_mode(random, {"no": 0, "silent": 1, "full": 2})
+        return f"want {number} {words}", field(EventTag.REQUEST, number, mode)
+    if name == "answer":
+        words, mode = random_mode(random, {"stopped": 0, "started": 1, "sleep": 2})
+        result, value = random.choice((("ok", 1), ("refused", 0), (f"value {number}", number)))
+        return f"answer {number} {words} {result}", field(EventTag.CONTROLLER_ANSWER, number, mode, value)
+    if name == "transceiver-mode":
+        words, mode = random_mode(random, {"normal": 0, "standby": 1})
+        return f"transceiver-mode {number} {words}", field(EventTag.TRANSCEIVER_MODE, number, mode)
+    if name == "tick":
+        return name, TICK
+    if name == "bytes":
+        data = random.randbytes(random.randint(1, 20))
+        return f"bytes {data.hex(' ')}", data
+    tag = {"bus-off": EventTag.BUS_OFF, "clear-done": EventTag.CLEAR_DONE, "check-done": EventTag.CHECK_DONE, "poll": EventTag.POLL}[name]
+    return f"{name} {number}", field(tag, number)
+
+
+class RandomScriptsTest(unittest.TestCase):
+    """Random scripts with random blanks and comments, against the model's own fields."""
+
+    def test_random_scripts(self):
+        random = Random(SEED)
+        for _ in range(400):
+            script, expected = "", b""
+            for _ in range(random.randrange(15)):
+                line, data = random_line(random)
+                blank = random.choice((" ", "  ", "\t"))
+                script += random.choice(("", blank)) + line.replace(" ", blank) + random.choice(("", blank, "# tick", " # want 7 ever"))
+                script += random.choice(("\n", "\r\n", "\n\n", "\n# poll\n"))
+                expected += data
+            self.assertEqual(written(script), expected)
+            self.assertEqual(written(script_of(expected)), expected)
+
+
+# ---------------------------------------------------------------------------
+# Bad scripts
+# ---------------------------------------------------------------------------
+
+A_BYTE = "a number from 0 to 255"
+TWO_BYTES = "a number from 0 to 65535"
+
+# A bad line, and why it is refused.
+BAD_LINES = [
+    ("want 7 fulll", "'fulll' is no mode: no, silent or full"),
+    ("want 7 2", "'2' is no mode: no, silent or full"),
+    ("want 7 Full", "'Full' is no mode: no, silent or full"),
+    ("want 7", "the mode is missing: no, silent or full"),
+    ("want 7 mode", f"the mode is missing: {A_BYTE}"),
+    ("want 7 mode 256", f"'256' is no mode: {A_BYTE}"),
+    ("want", f"the handle is missing: {A_BYTE}"),
+    ("want seven full", f"'seven' is no handle: {A_BYTE}"),
+    ("want 256 full", f"'256' is no handle: {A_BYTE}"),
+    ("want -1 full", f"'-1' is no handle: {A_BYTE}"),
+    ("want 0x7 full", f"'0x7' is no handle: {A_BYTE}"),
+    ("want 1_0 full", f"'1_0' is no handle: {A_BYTE}"),
+    ("want \u0663 full", f"'\u0663' is no handle: {A_BYTE}"),
+    ("want 7 full now", "'now' is too much: the line is complete before it"),
+    ("want " + "9" * 5000 + " full", f"'{'9' * 40}...' is no handle: {A_BYTE}"),
+    ("answer 3 running ok", "'running' is no controller mode: stopped, started or sleep"),
+    ("answer 3 stopped yes", "'yes' is no result: ok or refused"),
+    ("answer 3 stopped 1", "'1' is no result: ok or refused"),
+    ("answer 3 stopped", "the result is missing: ok or refused"),
+    ("answer 3 stopped value", f"the result is missing: {A_BYTE}"),
+    ("answer 3 stopped ok 256", f"'256' is no result: {A_BYTE}"),
+    ("answer 3 stopped ok 1 1", "'1' is too much: the line is complete before it"),
+    ("answer 3 stopped refused 0", "'0' is too much: the line is complete before it"),
+    ("answer 3", "the controller mode is missing: stopped, started or sleep"),
+    ("answer x stopped ok", f"'x' is no controller id: {A_BYTE}"),
+    ("bus-off", f"the controller id is missing: {A_BYTE}"),
+    ("bus-off 3 4", "'4' is too much: the line is complete before it"),
+    ("busoff 3", "no line begins with 'busoff': --help shows the forms"),
+    ("transceiver-mode 4 sleep", "'sleep' is no transceiver mode: normal or standby"),
+    ("clear-done x", f"'x' is no transceiver id: {A_BYTE}"),
+    ("check-done 300", f"'300' is no transceiver id: {A_BYTE}"),
+    ("poll", f"the handle is missing: {A_BYTE}"),
+    ("tick 3", "'3' is too much: the line is complete before it"),
+    ("Tick", "no line begins with 'Tick': --help shows the forms"),
+    ("tick\u00a0", "no line begins with 'tick\\xa0': --help shows the forms"),
+    ("tick\rtick", "no line begins with 'tick\\rtick': --help shows the forms"),
+    ("7 full", "no line begins with '7': --help shows the forms"),
+    ("network", f"the handle is missing: {A_BYTE}"),
+    ("network 7", "'controllers' is missing"),
+    ("network 7 controller 3", "'controller' stands where 'controllers' is expected"),
+    ("network 7 controllers", f"the controller id is missing: {A_BYTE}"),
+    ("network 7 controllers delays 2 5 3 threshold 1", f"'delays' is no controller id: {A_BYTE}"),
+    ("network 7 controllers 3 256 delays 2 5 3 threshold 1", f"'256' is no controller id: {A_BYTE}"),
+    ("network 7 controllers 3 4x delays 2 5 3 threshold 1", f"'4x' is no controller id: {A_BYTE}"),
+    ("network 7 controllers 3", "'delays' is missing"),
+    ("network 7 controllers 3 threshold 1", "'threshold' stands where 'delays' is expected"),
+    ("network 7 controllers 3 partial delays 2 5 3 threshold 1", "'partial' stands where 'delays' is expected"),
+    ("network 7 controllers 3 transceiver delays 2 5 3 threshold 1", f"'delays' is no transceiver id: {A_BYTE}"),
+    ("network 7 controllers 3 delays 2 5 threshold 1", f"'threshold' is no ensure time: {TWO_BYTES}"),
+    ("network 7 controllers 3 delays 65536 5 3 threshold 1", f"'65536' is no short delay: {TWO_BYTES}"),
+    ("network 7 controllers 3 delays 2 5.0 3 threshold 1", f"'5.0' is no long delay: {TWO_BYTES}"),
+    ("network 7 controllers 3 delays 2 5 3", "'threshold' is missing"),
+    ("network 7 controllers 3 delays 2 5 3 transceiver 4 threshold 1", "'transceiver' stands where 'threshold' is expected"),
+    ("network 7 controllers 3 delays 2 5 3 threshold", f"the threshold is missing: {A_BYTE}"),
+    ("network 7 controllers 3 delays 2 5 3 threshold 256", f"'256' is no threshold: {A_BYTE}"),
+    ("network 7 controllers 3 delays 2 5 3 threshold 1 transceiver 4", "'transceiver' is too much: the line is complete before it"),
+    ("network 7 controllers 3 delays 2 5 3 threshold 1 partial yes", f"'yes' is no partial networking: {A_BYTE}"),
+    ("network 7 controllers 3 delays 2 5 3 threshold 1 partial 1 1", "'1' is too much: the line is complete before it"),
+    ("controllers 3", "no line begins with 'controllers': --help shows the forms"),
+    ("delays 1 2", f"the ensure time is missing: {TWO_BYTES}"),
+    ("partial 256", f"'256' is no partial networking: {A_BYTE}"),
+    ("bytes", "the bytes are missing: two hexadecimal digits each"),
+    ("bytes 9", "'9' is no byte: two hexadecimal digits"),
+    ("bytes 0900", "'0900' is no byte: two hexadecimal digits"),
+    ("bytes 00 0g", "'0g' is no byte: two hexadecimal digits"),
+    ("bytes +1", "'+1' is no byte: two hexadecimal digits"),
+]
+
+
+class BadScriptsTest(unittest.TestCase):
+    """A bad script is refused with the line and the reason."""
+
+    def refusal(self, script):
+        """Why a script is refused."""
+        with self.assertRaises(ScriptError) as caught:
+            recording_of(script)
+        return str(caught.exception)
+
+    def test_each_bad_line(self):
+        for line, reason in BAD_LINES:
+            with self.subTest(line):
+                self.assertEqual(self.refusal(f"tick\n\n{line}\ntick\n".encode()), f"line 3: {reason}")
+
+    def test_the_first_bad_line_counts(self):
+        self.assertEqual(self.refusal(b"tick\r\n# a\r\npoll\r\ntack\r\n"), f"line 3: the handle is missing: {A_BYTE}")
+
+    def test_no_text(self):
+        self.assertEqual(self.refusal(b"tick\ntick \xff\n"), "line 2: byte 6 of the line, ff, is no UTF-8 text")
+        self.assertEqual(self.refusal(b"# \xe4\n"), "line 1: byte 3 of the line, e4, is no UTF-8 text")
+        self.assertEqual(self.refusal(b"\x00"), "line 1: no line begins with '\\x00': --help shows the forms")
+
+
+# ---------------------------------------------------------------------------
+# The output in words
+# ---------------------------------------------------------------------------
+
+WHOLE_CASE_IN_WORDS = """\
+config 0 1              sheet of 25 bytes                  accepted: 1 network
+1 0 1:3:0               tick                               ask controller 3 to stop
+2 0                     controller 3 answers: stopped, ok  taken
+3 0 1:3:2               tick                               ask controller 3 to sleep
+4 0                     controller 3 answers: sleep, ok    taken
+5 0 6:7:0               tick                               tell the communication manager: network 7 no communication
+6 0                     full is wanted of network 7        accepted: stored, and the next tick looks at it
+7 0 1:3:0               tick                               ask controller 3 to stop
+8 0                     controller 3 answers: stopped, ok  taken
+9 0 1:3:1               tick                               ask controller 3 to start
+10 0                    controller 3 answers: started, ok  taken
+11 0 3:3:0 6:7:2 7:7:2  tick                               allow controller 3 to send (online)
+                                                           tell the communication manager: network 7 full
+                                                           tell the mode manager: network 7 full
+12 0 8:7:1 6:7:1 7:7:3  bus-off of controller 3            report to the event manager: network 7 bus-off prefailed
+                                                           tell the communication manager: network 7 silent
+                                                           tell the mode manager: network 7 bus-off
+13 0 1:3:1              tick                               ask controller 3 to start
+14 0                    controller 3 answers: started, ok  taken
+15 0 3:3:1              tick                               forbid controller 3 to send (TX offline)
+16 0                    tick                               accepted: nothing is handed out
+17 0 3:3:0 6:7:2 7:7:2  tick                               allow controller 3 to send (online)
+                                                           tell the communication manager: network 7 full
+                                                           tell the mode manager: network 7 full
+18 0 2                  poll of network 7                  the mode last told: full
+"""
+
+# A sheet with handle 7, controller 3 and transceiver 4.
+OUTFITTED = model.write_sheet([network(7, [3], 4, partial=1)])
+
+# Every record kind with every argument.
+RECORDS = {
+    "1:3:0": "ask controller 3 to stop",
+    "1:3:1": "ask controller 3 to start",
+    "1:3:2": "ask controller 3 to sleep",
+    "2:4:0": "ask transceiver 4 to go to normal",
+    "2:4:1": "ask transceiver 4 to go to standby",
+    "3:3:0": "allow controller 3 to send (online)",
+    "3:3:1": "forbid controller 3 to send (TX offline)",
+    "4:4:0": "ask transceiver 4 to clear its wake flag",
+    "5:4:0": "ask transceiver 4 to check its wake flag",
+    "6:7:0": "tell the communication manager: network 7 no communication",
+    "6:7:1": "tell the communication manager: network 7 silent",
+    "6:7:2": "tell the communication manager: network 7 full",
+    "7:7:0": "tell the mode manager: network 7 no communication",
+    "7:7:1": "tell the mode manager: network 7 silent",
+    "7:7:2": "tell the mode manager: network 7 full",
+    "7:7:3": "tell the mode manager: network 7 bus-off",
+    "8:7:0": "report to the event manager: network 7 bus-off passed",
+    "8:7:1": "report to the event manager: network 7 bus-off prefailed",
+}
+
+CALL_REFUSALS = {
+    Refusal.NOT_READY: "refused: 0x01, there is no started manager, or no sheet",
+    Refusal.ALREADY_STARTED: "refused: 0x0b, the manager is started already",
+    Refusal.BUFFER_TOO_SHORT: "refused: 0x20, the lent buffer is too short",
+    Refusal.UNKNOWN_HANDLE: "refused: 0x03, unknown handle",
+    Refusal.UNKNOWN_CONTROLLER: "refused: 0x04, unknown controller",
+    Refusal.UNKNOWN_TRANSCEIVER: "refused: 0x05, unknown transceiver",
+    Refusal.VALUE_OUT_OF_RANGE: "refused: 0x21, a mode or ok value is out of its range",
+    Refusal.SILENT_NOT_NOW: "refused: 0x08, silent is asked for in a step other than 4 to 8",
+    Refusal.NOT_TAKEN: "refused: 0x22, an answer or bus-off that the step does not take",
+}
+
+# A sheet for each of its refusals, the model's line for it, and what is said of it and of its place.
+SHEET_REFUSALS = [
+    (SHEET[:24], "config 48 21", "refused: 0x30, a field is cut, or the last network is unfinished", "at byte 21: bytes 06 00 01"),
+    (SHEET[:21], "config 48 21", "refused: 0x30, a field is cut, or the last network is unfinished", "at byte 21: the sheet ends there"),
+    (SHEET + field(9, *range(9)), "config 49 25", "refused: 0x31, unknown tag", "at byte 25: bytes 09 00 09 00 01 02 03 04 ..."),
+    (field(1), "config 50 0", "refused: 0x32, the length is not that of the tag", "at byte 0: bytes 01 00 00"),
+    (SHEET[4:], "config 51 0", "refused: 0x33, the tag is not allowed here by the order of fields", "at byte 0: controller 3"),
+    (SHEET[:20] + b"\xff" + SHEET[21:], "config 52 17", "refused: 0x34, the value is out of its range", "at byte 17: threshold 255"),
+    (SHEET[:8] + SHEET[4:], "config 53 8", "refused: 0x35, the id is used before", "at byte 8: controller 3"),
+    (model.write_sheet(LARGEST) + field(Tag.HANDLE, 1), "config 54 328",
+     "refused: 0x36, a ninth network or a fifth controller", "at byte 328: handle 1"),
+    (SHEET[:24] + b"\x01", "config 55 21", "refused: 0x37, partial networking without a transceiver", "at byte 21: partial"),
+    (b"", "config 56 0", "refused: 0x38, no network at all", "at byte 0: there is no sheet"),
+    (TICK, "config 56 0", "refused: 0x38, no network at all", "at byte 0: there is no sheet"),
+]
+
+# An event that the sheet above is followed by, and what it is called.
+EVENTS = [
+    ("want 7 no", "no communication is wanted of network 7"),
+    ("want 7 silent", "silent is wanted of network 7"),
+    ("want 7 full", "full is wanted of network 7"),
+    ("want 8 mode 9", "mode 9 is wanted of network 8"),
+    ("bus-off 3", "bus-off of controller 3"),
+    ("answer 3 stopped ok", "controller 3 answers: stopped, ok"),
+    ("answer 3 sleep refused", "controller 3 answers: sleep, refused"),
+    ("answer 3 mode 7 value 2", "controller 3 answers: mode 7, value 2"),
+    ("transceiver-mode 4 standby", "transceiver 4 reports: standby"),
+    ("transceiver-mode 4 mode 2", "transceiver 4 reports: mode 2"),
+    ("clear-done 4", "wake flag of transceiver 4 cleared"),
+    ("check-done 4", "wake flag of transceiver 4 checked"),
+    ("tick", "tick"),
+    ("poll 7", "poll of network 7"),
+]
+
+# Bytes after the sheet and a tick, what is shown of them, and why the program stops there.
+STOPS = [
+    ("16", "bytes 16", "the field is cut"),
+    ("0900", "bytes 09 00", "the field is cut"),
+    ("180000", "bytes 18 00 00", "the tag is unknown"),
+    ("160001 00", "bytes 16 00 01 00", "the length is not that of the tag"),
+    ("01000107", "handle 7", "the tag is below 10, and the sheet is over"),
+    ("0f0000", "bytes 0f 00 00", "the tag is below 10, and the sheet is over"),
+    ("010000", "bytes 01 00 00", "the tag is below 10, and the sheet is over"),
+]
+
+
+def cells(text):
+    """The cells of each line of an explanation."""
+    return [re.split(r" {2,}", line) for line in text.splitlines()]
+
+
+def explained(data, output):
+    """The cells of an explanation whose output is given as text."""
+    return cells(explain(data, output.encode("ascii")))
+
+
+class ExplainTest(unittest.TestCase):
+    """Each line, its event and what it says."""
+
+    def test_whole_case(self):
+        output = model.cantrace(WHOLE_CASE).encode("ascii")
+        self.assertEqual(explain(WHOLE_CASE, output), WHOLE_CASE_IN_WORDS)
+        self.assertEqual(explain(WHOLE_CASE, output.replace(b"\n", b"\r\n")), WHOLE_CASE_IN_WORDS)
+
+    def test_each_record(self):
+        arguments = {kind: {int(record[-1]) for record in RECORDS if record[0] == kind} for kind in "12345678"}
+        self.assertEqual([len(arguments[kind]) for kind in "12345678"], [3, 2, 2, 1, 1, 3, 4, 2])
+        self.assertEqual(len(set(RECORDS.values())), len(RECORDS))
+        for record, words in RECORDS.items():
+            self.assertEqual(explained(OUTFITTED + TICK, f"config 0 1\n1 0 {record}\n")[1], [f"1 0 {record}", "tick", words])
+
+    def test_several_records(self):
+        found = explained(OUTFITTED + TICK, "config 0 1\n1 0 " + " ".join(RECORDS) + "\n")
+        self.assertEqual(found[1], ["1 0 " + " ".join(RECORDS)])
+        self.assertEqual([row[-1] for row in found[2:]], list(RECORDS.values()))
+        self.assertEqual(found[2], ["", "tick", RECORDS["1:3:0"]])
+
+    def test_each_refusal_of_a_call(self):
+        self.assertEqual(len(set(CALL_REFUSALS.values())), len(CALL_REFUSALS))
+        for number, words in CALL_REFUSALS.items():
+            self.assertEqual(explained(SHEET + TICK, f"config 0 1\n1 {number}\n")[1], [f"1 {number}", "tick", words])
+
+    def test_each_refusal_of_a_sheet(self):
+        for data, line, words, place in SHEET_REFUSALS:
+            with self.subTest(line):
+                self.assertEqual(model.cantrace(data), line + "\n")
+                found = explained(data, line + "\n")
+                self.assertEqual(found[0][2], words)
+                self.assertEqual(found[1], ["", place])
+
+    def test_every_refusal_number_is_there(self):
+        numbers = {number for name, number in vars(Refusal).items() if name.isupper()}
+        self.assertEqual({*CALL_REFUSALS, *(int(line.split()[1]) for _, line, *_ in SHEET_REFUSALS)}, numbers)
+        self.assertEqual(len({words for _, _, words, _ in SHEET_REFUSALS}), 9)
+
+    def test_each_event(self):
+        for line, words in EVENTS:
+            data = OUTFITTED + written(line)
+            found = explained(data, model.cantrace(data))
+            self.assertEqual(found[1][1], words)
+
+    def test_answers_without_records(self):
+        data = OUTFITTED + written("want 7 full\nanswer 3 stopped ok\ntick\nbus-off 3\npoll 7\npoll 7\npoll 7\npoll 7")
+        found = explained(data, "config 0 1\n1 0\n2 0\n3 0\n4 0\n5 0 0\n6 0 1\n7 0 2\n8 3 0\n")
+        self.assertEqual([row[-1] for row in found[1:]], [
+            "accepted: stored, and the next tick looks at it", "taken", "accepted: nothing is handed out", "accepted: nothing is handed out",
+            "the mode last told: no communication", "the mode last told: silent", "the mode last told: full", "refused: 0x03, unknown handle",
+        ])
+
+    def test_each_stop(self):
+        for after, shown, words in STOPS:
+            data = SHEET + TICK + bytes.fromhex(after)
+            self.assertEqual(model.cantrace(data).splitlines()[-1], "stop 28")
+            self.assertEqual(explained(data, model.cantrace(data))[-1], ["stop 28", shown, f"stop at byte 28: {words}"])
+
+    def test_too_long(self):
+        found = explained(bytes(65537), "too long\n")
+        self.assertEqual(found, [["too long", "recording of 65537 bytes", "more than 65536 bytes: nothing is run"]])
+
+    def test_number_of_networks(self):
+        sheet = model.write_sheet(LARGEST)
+        self.assertEqual(explained(sheet, "config 0 8\n"), [["config 0 8", "sheet of 328 bytes", "accepted: 8 networks"]])
+
+    def test_columns_are_aligned(self):
+        for example in examples.EXAMPLES.glob("*.script"):
+            output = example.with_suffix(".txt").read_bytes()
+            text = explain(recording_of(example.read_bytes()), output)
+            starts = {len(line) - len(row[-1]) for line, row in zip(text.splitlines(), cells(text))}
+            self.assertEqual(len(starts), 1, example.name)
+            self.assertLessEqual(max(map(len, text.splitlines())), 140)
+
+    def test_stored_cases(self):
+        reached = set()
+        for case, output in zip(CASES, STORED_OUTPUTS):
+            with self.subTest(case.name):
+                lines = [row[0] for row in explained(case.data, output) if row[0]]
+                self.assertEqual(lines, output.splitlines())
+            reached |= {(record[0], record[-1]) for record in re.findall(r" \d:\d+:\d", output) for record in [record.strip()]}
+        self.assertEqual(reached, {(record[0], record[-1]) for record in RECORDS})
+
+    def test_random_traces(self):
+        random = Random(SEED)
+        for _ in range(100):
+            data = random_traces.Driver(random).run(60)
+            output = model.cantrace(data)
+            self.assertEqual([row[0] for row in explained(data, output) if row[0]], output.splitlines())
+
+
+# An output that is not the recording's, and why.
+WHOLE_OUTPUT = model.cantrace(WHOLE_CASE)
+MISMATCHES = [
+    (WHOLE_CASE, "", "it is empty"),
+    (WHOLE_CASE, "\n", "line 1: 'config' and two numbers are expected, not ''"),
+    (WHOLE_CASE, "too long\n", "line 1: 'config' and two numbers are expected, not 'too long'"),
+    (WHOLE_CASE, WHOLE_OUTPUT[:-1], "line 19: the line end is missing, so the output is cut"),
+    (WHOLE_CASE, WHOLE_OUTPUT[:-len("18 0 2\n")], "its number of lines is 18, not 19"),
+    (WHOLE_CASE, WHOLE_OUTPUT + "19 0\n", "its number of lines is 20, not 19"),
+    (WHOLE_CASE, WHOLE_OUTPUT + "stop 116\n", "its number of lines is 20, not 19"),
+    (WHOLE_CASE, WHOLE_OUTPUT + "\n", "its number of lines is 20, not 19"),
+    (WHOLE_CASE, WHOLE_OUTPUT.replace("\n4 0\n", "\n"), "line 5: event 4 is expected, not '5 0 6:7:0'"),
+    (WHOLE_CASE, WHOLE_OUTPUT.replace("config 0 1", "config 0 2"), "line 1: the number of networks is 2, and in the sheet it is 1"),
+    (SHEET[:-4], "config 0 1\n", "line 1: the number of networks is 1, and in the sheet it is 0"),
+    (SHEET + SHEET[:4], "config 0 1\n", "line 1: the sheet is accepted, and not all of it is whole networks"),
+    (WHOLE_CASE, WHOLE_OUTPUT.replace("1:3:2", "1:4:2"), "line 4: '1:4:2' names an id that the sheet does not have"),
+    (WHOLE_CASE, WHOLE_OUTPUT.replace("6:7:0", "6:3:0"), "line 6: '6:3:0' names an id that the sheet does not have"),
+    (WHOLE_CASE, WHOLE_OUTPUT.replace("1:3:2", "2:3:0"), "line 4: '2:3:0' names an id that the sheet does not have"),
+    (WHOLE_CASE, WHOLE_OUTPUT.replace("1:3:2", "1:3:3"), "line 4: '1:3:3' is no record"),
+    (WHOLE_CASE, WHOLE_OUTPUT.replace("1:3:2", "9:3:0"), "line 4: '9:3:0' is no record"),
+    (WHOLE_CASE, WHOLE_OUTPUT.replace("1:3:2", "1:3"), "line 4: '1:3' is no record"),
+    (WHOLE_CASE, WHOLE_OUTPUT.replace("1:3:2", "1:03:2"), "line 4: '1:03:2' is no record"),
+    (WHOLE_CASE, WHOLE_OUTPUT.replace("\n2 0\n", "\n2 0 1:3:2\n"),
+     "line 3: only a tick and a bus-off hand out records, and this is: controller 3 answers: stopped, ok"),
+    (WHOLE_CASE, WHOLE_OUTPUT.replace("\n2 0\n", "\n2 99\n"), "line 3: 99 is no refusal that can stand here"),
+    (WHOLE_CASE, WHOLE_OUTPUT.replace("\n2 0\n", "\n2 48\n"), "line 3: 48 is no refusal that can stand here"),
+    (WHOLE_CASE, WHOLE_OUTPUT.replace("\n3 0 1", "\n3 34 1"), "line 4: a refused event hands out nothing"),
+    (WHOLE_CASE, WHOLE_OUTPUT.replace("18 0 2", "18 0 3"), "line 19: the answer of a poll and then a mode, 0 to 2, are expected"),
+    (WHOLE_CASE, WHOLE_OUTPUT.replace("18 0 2", "18 0"), "line 19: the answer of a poll and then a mode, 0 to 2, are expected"),
+    (WHOLE_CASE, WHOLE_OUTPUT.replace("18 0 2", "18 3 2"), "line 19: a refused event hands out nothing"),
+    (WHOLE_CASE, WHOLE_OUTPUT.replace("18 0 2", "018 0 2"), "line 19: event 18 is expected, not '018 0 2'"),
+    (WHOLE_CASE, WHOLE_OUTPUT.replace("18 0 2", "stop 112"), "line 19: event 18 is expected, not 'stop 112'"),
+    (WHOLE_CASE, WHOLE_OUTPUT.replace("18 0 2", "18  0 2"), "line 19: event 18 is expected, not '18  0 2'"),
+    (WHOLE_CASE, "config 0 " + "1" * 5000 + "\n", f"line 1: 'config' and two numbers are expected, not 'config 0 {'1' * 31}...'"),
+    (WHOLE_CASE, "config 52 17\n1 0\n", "its number of lines is 2, not 1"),
+    (WHOLE_CASE, "config 52 18\n", "line 1: no field of the sheet begins at byte 18"),
+    (WHOLE_CASE, "config 34 17\n", "line 1: 34 is no refusal that can stand here"),
+    (WHOLE_CASE, "config 56 0\n", "line 1: a sheet of 25 bytes is not refused by 56, no network at all"),
+    (TICK, "config 48 0\n", "line 1: a sheet of 0 bytes is not refused by 48, a field is cut, or the last network is unfinished"),
+    (TICK, "config 56 3\n", "line 1: no field of the sheet begins at byte 3"),
+    (SHEET + b"\x16", "config 0 1\n", "its number of lines is 1, not 2"),
+    (SHEET + b"\x16", "config 0 1\nstop 24\n", "line 2: 'stop 25' is expected, not 'stop 24'"),
+    (SHEET + b"\x16", "config 0 1\n1 0\n", "line 2: 'stop 25' is expected, not '1 0'"),
+    (bytes(65537), "config 49 0\n", "the recording has more than 65536 bytes, and the output is not the line 'too long'"),
+    (bytes(65537), "too long\ntoo long\n", "the recording has more than 65536 bytes, and the output is not the line 'too long'"),
+]
+
+
+class MismatchTest(unittest.TestCase):
+    """An output that does not belong to the recording is not explained."""
+
+    def mismatch(self, data, output):
+        """Why an output is not taken for the recording's."""
+        with self.assertRaises(NotItsOutput) as caught:
+            explain(data, output)
+        return str(caught.exception)
+
+    def test_each_mismatch(self):
+        for data, output, reason in MISMATCHES:
+            with self.subTest(reason):
+                self.assertEqual(self.mismatch(data, output.encode("ascii")), reason)
+
+    def test_no_text(self):
+        self.assertEqual(self.mismatch(SHEET, b"config \xff\n"), "line 1: 'config' and two numbers are expected, not 'config \\\\xff'")
+
+    def test_the_output_of_another_case(self):
+        for case in CASES:
+            if case.data != WHOLE_CASE:
+                with self.subTest(case.name):
+                    self.mismatch(case.data, WHOLE_OUTPUT.encode("ascii"))
+
+    def test_a_line_less_and_a_line_more(self):
+        for case, output in zip(CASES, STORED_OUTPUTS):
+            lines = output.splitlines(keepends=True)
+            if len(lines) < 1000:
+                self.mismatch(case.data, "".join(lines[:-1]).encode("ascii"))
+                self.mismatch(case.data, "".join(lines + lines[-1:]).encode("ascii"))
+
+
+# ---------------------------------------------------------------------------
+# The command
+# ---------------------------------------------------------------------------
+
+
+class CommandTest(unittest.TestCase):
+    """The command itself: files and streams, exit codes, messages."""
+
+    def setUp(self):
+        folder = tempfile.TemporaryDirectory()
+        self.addCleanup(folder.cleanup)
+        self.folder = Path(folder.name)
+
+    def put(self, name, content):
+        """A file in the test's own folder."""
+        (self.folder / name).write_bytes(content)
+        return name
+
+    def check_good(self, expected, *arguments, data=b""):
+        """All of the output is this, and nothing is said beside it."""
+        done = run(*arguments, data=data, folder=self.folder)
+        self.assertEqual((done.returncode, done.stdout, done.stderr), (0, expected, b""))
+
+    def check_bad(self, status, message, *arguments, data=b""):
+        """Nothing comes out but this one line."""
+        done = run(*arguments, data=data, folder=self.folder)
+        self.assertEqual((done.returncode, done.stdout, done.stderr.decode()), (status, b"", f"recording: {message}\n"))
+
+    def test_write(self):
+        script = b"# up\r\nwant 7 full\r\n"
+        self.check_good(bytes.fromhex("1000020702"), "write", data=script)
+        self.check_good(bytes.fromhex("1000020702"), "write", self.put("up.script", script))
+
+    def test_read(self):
+        self.check_good(f"{SHEET_LINE}\n\ntick\n".encode(), "read", data=SHEET + TICK)
+        self.check_good(f"{SHEET_LINE}\n\ntick\n".encode(), "read", self.put("up.bin", SHEET + TICK))
+        self.check_good(b"", "read")
+
+    def test_explain(self):
+        recording, script = self.put("whole.bin", WHOLE_CASE), self.put("whole.script", script_of(WHOLE_CASE).encode())
+        output = WHOLE_OUTPUT.encode()
+        for name in (recording, script):
+            self.check_good(WHOLE_CASE_IN_WORDS.encode(), "explain", name, data=output)
+            self.check_good(WHOLE_CASE_IN_WORDS.encode(), "explain", name, self.put("whole.txt", output))
+
+    def test_bad_script(self):
+        bad = b"tick\n\nwant 7 fulll\n"
+        self.check_bad(1, "line 3: 'fulll' is no mode: no, silent or full", "write", data=bad)
+        self.check_bad(1, "bad.script: line 3: 'fulll' is no mode: no, silent or full", "write", self.put("bad.script", bad))
+        self.check_bad(1, "bad.script: line 3: 'fulll' is no mode: no, silent or full", "explain", "bad.script", data=b"config 56 0\n")
+
+    def test_not_its_output(self):
+        self.put("up.bin", SHEET + TICK)
+        self.put("up.script", b"tick\n")
+        self.check_bad(1, "the output does not belong to up.bin, taken as bytes: it is empty", "explain", "up.bin")
+        self.check_bad(1, "the output does not belong to up.script, taken as a script: line 1: the number of networks is 1, and in the sheet it is 0",
+                       "explain", "up.script", data=b"config 0 1\n")
+
+    def test_files_that_cannot_be_read(self):
+        for command in ("write", "read", "explain"):
+            self.check_bad(1, "cannot read nowhere.script: No such file or directory", command, "nowhere.script")
+        self.check_bad(1, "cannot read nowhere.txt: No such file or directory", "explain", self.put("up.bin", SHEET), "nowhere.txt")
+        self.check_bad(1, "cannot read .: Is a directory", "read", ".")
+
+    def test_wrong_usage(self):
+        for arguments in ((), ("wrote",), ("--version",), ("",)):
+            self.check_bad(2, "write, read or explain is expected: tools/recording --help", *arguments)
+        for arguments in (("write", "a", "b"), ("write", "-"), ("write", "")):
+            self.check_bad(2, "the usage is: tools/recording write [SCRIPT]", *arguments)
+        for arguments in (("explain",), ("explain", "a", "b", "c"), ("explain", "--quiet", "a")):
+            self.check_bad(2, "the usage is: tools/recording explain RECORDING [OUTPUT]", *arguments)
+        self.check_bad(2, "the usage is: tools/recording read [RECORDING]", "read", "a", "b")
+
+    def test_help(self):
+        text = run("--help").stdout.decode()
+        self.assertEqual(run("write", "-h").stdout.decode(), text)
+        self.assertLessEqual(len(text.splitlines()), 60)
+        self.assertLessEqual(max(map(len, text.splitlines())), 130)
+        for name in {line.split()[0] for line, *_ in FORMS}:
+            self.assertRegex(text, rf"(?m)(^ +|, ){name}\b")
+        for word in ("no|silent|full", "stopped|started|sleep", "ok|refused", "normal|standby"):
+            self.assertIn(word, text)
+
+    def test_example_in_the_help(self):
+        """It is a script, all of it is accepted, and each comment that says what is told or asked is so."""
+        example = re.search(r"(?ms)^    network \d.*?^(?! )", run("--help").stdout.decode())[0]
+        data = written(example)
+        output = model.cantrace(data)
+        self.assertEqual({line.split()[1] for line in output.splitlines()}, {"0"})
+        handed_out = [line.split()[2:] for line in output.splitlines()[1:] if line.split()[2:]]
+        self.assertEqual(handed_out, [
+            ["1:3:0"], ["1:3:2"], ["6:7:0"], ["1:3:0"], ["1:3:1"], ["3:3:0", "6:7:2", "7:7:2"], ["8:7:1", "6:7:1", "7:7:3"],
+        ])
+        comments = re.findall(r"# (.*)", example)
+        self.assertEqual(comments, [
+            "controller 3 is asked to stop", "to sleep", "it is down", "to stop", "to start", "full is told", "and silent at once",
+        ])
+
+    def test_broken_pipe(self):
+        name = self.put("long.bin", SHEET + TICK * 50000)
+        command = [sys.executable, str(COMMAND), "read", name]
+        with subprocess.Popen(command, cwd=self.folder, stdout=subprocess.PIPE, stderr=subprocess.PIPE) as reading:
+            self.assertTrue(reading.stdout.read(10))
+            reading.stdout.close()
+            self.assertEqual(reading.stderr.read(), b"")
+
+    @unittest.skipUnless(os.path.exists("/dev/full"), "there is no /dev/full")
+    def test_full_disk(self):
+        with open("/dev/full", "wb") as full:
+            done = subprocess.run([sys.executable, str(COMMAND), "--help"], stdout=full, stderr=subprocess.PIPE, timeout=60, check=False)
+        self.assertEqual((done.returncode, done.stderr), (1, b"recording: cannot write standard output: No space left on device\n"))
+
+    def test_it_can_be_run_as_it_stands(self):
+        self.assertTrue(os.access(COMMAND, os.X_OK))
+        done = subprocess.run([str(COMMAND), "write"], input=b"tick", capture_output=True, cwd=self.folder, timeout=60, check=False)
+        self.assertEqual((done.returncode, done.stdout), (0, TICK))
+
+
+class ExamplesTest(unittest.TestCase):
+    """The scripts in `examples`."""
+
+    def test_whole_case(self):
+        self.assertEqual(recording_of(examples.WHOLE_CASE.read_bytes()), WHOLE_CASE)
+
+    def test_each_example_can_be_read_back(self):
+        scripts = sorted(examples.EXAMPLES.glob("*.script"))
+        self.assertEqual([path.with_suffix("") for path in scripts], sorted(path.with_suffix("") for path in examples.EXAMPLES.glob("*.txt")))
+        for path in scripts:
+            without_comments = [line.split("#")[0].strip() for line in path.read_text(encoding="utf-8").splitlines()]
+            forms = [line for line in script_of(recording_of(path.read_bytes())).splitlines() if line]
+            self.assertEqual([line for line in without_comments if line], forms)
+
+
+if __name__ == "__main__":
+    unittest.main()

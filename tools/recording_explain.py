@@ -1,0 +1,115 @@
+"""The output of `cantrace` in words: beside each line the event that it belongs to, and what it says."""
+
+from typing import List, NamedTuple
+
+from recording_fields import FIRST_EVENT_TAG, LONGEST_RECORDING, Fault, Field, Tag
+from recording_output import ACCEPTED, EVENTS_WITH_RECORDS, TOO_LONG, ConfigLine, EventLine, Output, Recording, read_output
+from recording_script import field_line
+from recording_words import CALL_REFUSALS, MODE_WORDS, SHEET_REFUSALS, event_words, record_words
+
+WIDEST_LINE = 28
+GAP = "  "
+MOST_BYTES_SHOWN = 8
+STOP_WORDS = {
+    Fault.CUT: "the field is cut",
+    Fault.UNKNOWN_TAG: "the tag is unknown",
+    Fault.WRONG_LENGTH: "the length is not that of the tag",
+    Fault.NONE: "the tag is below 10, and the sheet is over",
+}
+
+
+class Row(NamedTuple):
+    """A line of the output, the event that it belongs to, and what it says, in one sentence or several."""
+
+    line: str
+    event: str
+    meanings: List[str]
+
+
+def shown(field: Field) -> str:
+    """A field as a script has it; of one without a form its first bytes."""
+    if field.fault == Fault.NONE:
+        return field_line(field)
+    return f"bytes {field.data[:MOST_BYTES_SHOWN].hex(' ')}" + (" ..." if len(field.data) > MOST_BYTES_SHOWN else "")
+
+
+# ---------------------------------------------------------------------------
+# What a line says
+# ---------------------------------------------------------------------------
+
+
+def refusal_words(number: int, why: str) -> str:
+    """A refusal: its number as document 01 writes it, and when it is given."""
+    return f"refused: 0x{number:02x}, {why}"
+
+
+def place_words(recording: Recording, config: ConfigLine) -> str:
+    """Where a sheet is refused, and what stands there."""
+    place = config.number
+    if not recording.sheet:
+        return f"at byte {place}: there is no sheet"
+    if place == recording.sheet_bytes:
+        return f"at byte {place}: the sheet ends there"
+    return next(f"at byte {place}: {shown(field)}" for field in recording.sheet if field.place == place)
+
+
+def config_meanings(recording: Recording, config: ConfigLine) -> List[str]:
+    """What the first line says."""
+    if config.answer != ACCEPTED:
+        return [refusal_words(config.answer, SHEET_REFUSALS[config.answer]), place_words(recording, config)]
+    return [f"accepted: {config.number} network" + ("" if config.number == 1 else "s")]
+
+
+def event_meanings(event: EventLine) -> List[str]:
+    """What the answer to an event, and what follows it, say."""
+    if event.answer != ACCEPTED:
+        return [refusal_words(event.answer, CALL_REFUSALS[event.answer])]
+    if event.polled is not None:
+        return [f"the mode last told: {MODE_WORDS[event.polled]}"]
+    if event.field.tag == Tag.REQUEST:
+        return ["accepted: stored, and the next tick looks at it"]
+    if event.field.tag in EVENTS_WITH_RECORDS:
+        return [record_words(record) for record in event.records] or ["accepted: nothing is handed out"]
+    return ["taken"]
+
+
+def stop_words(field: Field) -> str:
+    """Why a recording stops at a field."""
+    fault = Fault.NONE if field.tag < FIRST_EVENT_TAG and field.fault != Fault.CUT else field.fault
+    return f"stop at byte {field.place}: {STOP_WORDS[fault]}"
+
+
+# ---------------------------------------------------------------------------
+# The whole output
+# ---------------------------------------------------------------------------
+
+
+def rows_of(recording: Recording, output: Output) -> List[Row]:
+    """A row for each line."""
+    if output.config is None:
+        return [Row(TOO_LONG, f"recording of {recording.length} bytes", [f"more than {LONGEST_RECORDING} bytes: nothing is run"])]
+    rows = [Row(output.config.line, f"sheet of {recording.sheet_bytes} bytes", config_meanings(recording, output.config))]
+    rows += [Row(event.line, event_words(event.field), event_meanings(event)) for event in output.events]
+    return rows + [Row(line, shown(field), [stop_words(field)]) for field, line in zip(recording.stop, output.stop)]
+
+
+def table(rows: List[Row]) -> str:
+    """The rows in three columns. A line that is too wide for the first column stands alone, above its event."""
+    line_width = min(WIDEST_LINE, max(len(row.line) for row in rows))
+    event_width = max(len(row.event) for row in rows)
+    text = []
+    for row in rows:
+        line = row.line
+        if len(line) > line_width:
+            text.append(line)
+            line = ""
+        for event, meaning in zip([row.event] + [""] * len(row.meanings), row.meanings):
+            text.append(f"{line:{line_width}}{GAP}{event:{event_width}}{GAP}{meaning}")
+            line = ""
+    return "".join(line + "\n" for line in text)
+
+
+def explain(data: bytes, output: bytes) -> str:
+    """The output of a recording, line by line, in words."""
+    recording = Recording(data)
+    return table(rows_of(recording, read_output(recording, output)))

@@ -1,0 +1,116 @@
+"""The words for what a recording and its output hold: events, records and refusals. They are those of document 01.
+
+The explanation of an output and the picture of a recovery are made of these. A record has short words too: an arrow of the picture has
+little room, and its columns are headed by the network and its controllers.
+"""
+
+from typing import NamedTuple
+
+from recording_fields import Field, Mode, Tag
+from recording_script import parts_of
+
+
+class Kind:
+    """The kinds of records."""
+
+    CONTROLLER_MODE = 1
+    TRANSCEIVER_MODE = 2
+    PDU_MODE = 3
+    CLEAR_WAKE_FLAG = 4
+    CHECK_WAKE_FLAG = 5
+    COMMUNICATION_MANAGER = 6
+    MODE_MANAGER = 7
+    EVENT_MANAGER = 8
+
+
+class Record(NamedTuple):
+    """A record that is handed out."""
+
+    kind: int
+    target: int
+    argument: int
+
+
+class RecordWords(NamedTuple):
+    """What a record says: in a sentence, and on an arrow."""
+
+    sentence: str
+    short: str
+
+
+TX_OFFLINE = 1
+NO_NETWORK = 0x38
+
+CALL_REFUSALS = {
+    0x01: "there is no started manager, or no sheet",
+    0x0B: "the manager is started already",
+    0x20: "the lent buffer is too short",
+    0x03: "unknown handle",
+    0x04: "unknown controller",
+    0x05: "unknown transceiver",
+    0x21: "a mode or ok value is out of its range",
+    0x08: "silent is asked for in a step other than 4 to 8",
+    0x22: "an answer or bus-off that the step does not take",
+}
+SHEET_REFUSALS = {
+    0x30: "a field is cut, or the last network is unfinished",
+    0x31: "unknown tag",
+    0x32: "the length is not that of the tag",
+    0x33: "the tag is not allowed here by the order of fields",
+    0x34: "the value is out of its range",
+    0x35: "the id is used before",
+    0x36: "a ninth network or a fifth controller",
+    0x37: "partial networking without a transceiver",
+    NO_NETWORK: "no network at all",
+}
+
+# By kind and argument: all records that there are.
+RECORD_WORDS = {
+    (Kind.CONTROLLER_MODE, 0): RecordWords("ask controller {} to stop", "stop controller {}"),
+    (Kind.CONTROLLER_MODE, 1): RecordWords("ask controller {} to start", "start controller {}"),
+    (Kind.CONTROLLER_MODE, 2): RecordWords("ask controller {} to sleep", "put controller {} to sleep"),
+    (Kind.TRANSCEIVER_MODE, 0): RecordWords("ask transceiver {} to go to normal", "transceiver {} normal"),
+    (Kind.TRANSCEIVER_MODE, 1): RecordWords("ask transceiver {} to go to standby", "transceiver {} standby"),
+    (Kind.PDU_MODE, 0): RecordWords("allow controller {} to send (online)", "controller {} online"),
+    (Kind.PDU_MODE, TX_OFFLINE): RecordWords("forbid controller {} to send (TX offline)", "controller {} TX offline"),
+    (Kind.CLEAR_WAKE_FLAG, 0): RecordWords("ask transceiver {} to clear its wake flag", "clear wake flag of {}"),
+    (Kind.CHECK_WAKE_FLAG, 0): RecordWords("ask transceiver {} to check its wake flag", "check wake flag of {}"),
+    (Kind.COMMUNICATION_MANAGER, Mode.NO): RecordWords("tell the communication manager: network {} no communication", "told no"),
+    (Kind.COMMUNICATION_MANAGER, Mode.SILENT): RecordWords("tell the communication manager: network {} silent", "told silent"),
+    (Kind.COMMUNICATION_MANAGER, Mode.FULL): RecordWords("tell the communication manager: network {} full", "told full"),
+    (Kind.MODE_MANAGER, Mode.NO): RecordWords("tell the mode manager: network {} no communication", "mode manager: no"),
+    (Kind.MODE_MANAGER, Mode.SILENT): RecordWords("tell the mode manager: network {} silent", "mode manager: silent"),
+    (Kind.MODE_MANAGER, Mode.FULL): RecordWords("tell the mode manager: network {} full", "mode manager: full"),
+    (Kind.MODE_MANAGER, 3): RecordWords("tell the mode manager: network {} bus-off", "mode manager: bus-off"),
+    (Kind.EVENT_MANAGER, 0): RecordWords("report to the event manager: network {} bus-off passed", "event manager: passed"),
+    (Kind.EVENT_MANAGER, 1): RecordWords("report to the event manager: network {} bus-off prefailed", "event manager: prefailed"),
+}
+EVENT_WORDS = {
+    Tag.REQUEST: "{1} is wanted of network {0}",
+    Tag.BUS_OFF: "bus-off of controller {0}",
+    Tag.ANSWER: "controller {0} answers: {1}, {2}",
+    Tag.TRANSCEIVER_MODE: "transceiver {0} reports: {1}",
+    Tag.CLEAR_DONE: "wake flag of transceiver {0} cleared",
+    Tag.CHECK_DONE: "wake flag of transceiver {0} checked",
+    Tag.TICK: "tick",
+    Tag.POLL: "poll of network {0}",
+}
+MODE_WORDS = {Mode.NO: "no communication", Mode.SILENT: "silent", Mode.FULL: "full"}
+
+
+def event_words(field: Field) -> str:
+    """An event in words."""
+    parts = [" ".join(words) for words in parts_of(field)]
+    if field.tag == Tag.REQUEST:
+        parts[1] = MODE_WORDS.get(field.value[1], parts[1])
+    return EVENT_WORDS[field.tag].format(*parts)
+
+
+def record_words(record: Record) -> str:
+    """A record in a sentence."""
+    return RECORD_WORDS[record.kind, record.argument].sentence.format(record.target)
+
+
+def short_record_words(record: Record) -> str:
+    """A record in a few words."""
+    return RECORD_WORDS[record.kind, record.argument].short.format(record.target)
