@@ -3,6 +3,7 @@ use Prim.Native.Nat.{ℕ}
 use mathlib.Core.List.{List, [], _∷_}
 use Rattle.network_demands.specs.Calls.{Call, read, write, start, request, poll, busOff, answer, transceiverMode, clearDone, checkDone, tick}
 
+-- "0 means accepted", and the refusals whose row of the table can apply to such a call; its arguments do not matter
 abbrev pub answersOf : Call → List ℕ
 answersOf (read bytes) = 0 ∷ 0x0B ∷ 0x30 ∷ 0x31 ∷ 0x32 ∷ 0x33 ∷ 0x34 ∷ 0x35 ∷ 0x36 ∷ 0x37 ∷ 0x38 ∷ []
 answersOf (write room) = 0 ∷ 0x01 ∷ 0x20 ∷ []

@@ -35,6 +35,7 @@ pub record Seen : Type 0 where
   pub place : ℕ
   pub records : List Record
 
+-- an outcome with its answer as a number, beside the records; the next manager is left out
 abbrev pub seenOf : Outcome → List Record → Seen
 seenOf o rs = record { number = answerNumber (o .answer); count = o .count; mode = o .mode; place = o .place; records = rs }
 
@@ -49,6 +50,7 @@ pub record Case : Type 0 where
   pub calls : List Call
   pub expected : List Seen
 
+-- one bench case as one line of the list
 abbrev case : List Call → List Call → List Seen → Case
 case before calls expected = record { before = before; calls = calls; expected = expected }
 
@@ -56,6 +58,7 @@ case before calls expected = record { before = before; calls = calls; expected =
 abbrev refusedAtPlace : ℕ → ℕ → Seen
 refusedAtPlace number place = record { number = number; count = 0; mode = 0; place = place; records = [] }
 
+-- B2 and B7: accepted; "the number of networks and, as place, the sheet's length" are 1 and 25
 abbrev sheetTaken : Seen
 sheetTaken = record { number = 0; count = 1; mode = 0; place = 25; records = [] }
 
@@ -63,15 +66,19 @@ sheetTaken = record { number = 0; count = 1; mode = 0; place = 25; records = [] 
 abbrev refusedWith : ℕ → Seen
 refusedWith number = record { number = number; count = 0; mode = 0; place = 0; records = [] }
 
+-- accepted, and nothing is handed out: a controller's answer, or a tick that only counts
 abbrev taken : Seen
 taken = record { number = 0; count = 0; mode = 0; place = 0; records = [] }
 
+-- accepted with one record: a request to the one controller, its TX offline, or 8 passed
 abbrev takenWith : Record → Seen
 takenWith r = record { number = 0; count = 1; mode = 0; place = 0; records = r ∷ [] }
 
+-- accepted with three records, which fill the 9 lent bytes
 abbrev takenWithThree : Record → Record → Record → Seen
 takenWithThree r s t = record { number = 0; count = 3; mode = 0; place = 0; records = r ∷ s ∷ t ∷ [] }
 
+-- the poll after the fourth tick of B9: the polled mode is 2, full
 abbrev polledFull : Seen
 polledFull = record { number = 0; count = 0; mode = 2; place = 0; records = [] }
 
@@ -79,6 +86,7 @@ polledFull = record { number = 0; count = 0; mode = 2; place = 0; records = [] }
 abbrev fullTold : Seen
 fullTold = takenWithThree (handed 3 3 0) (handed 6 7 2) (handed 7 7 2)
 
+-- "8 prefailed, 6 silent, 7 bus-off", of handle 7
 abbrev busOffTold : Seen
 busOffTold = takenWithThree (handed 8 7 1) (handed 6 7 1) (handed 7 7 3)
 
@@ -96,12 +104,15 @@ down = ticks ∷ answer 3 0 1 ∷ ticks ∷ answer 3 2 1 ∷ ticks ∷ []
 abbrev pub up : List Call
 up = request 7 2 ∷ ticks ∷ answer 3 0 1 ∷ ticks ∷ answer 3 1 1 ∷ ticks ∷ []
 
+-- the bench sheet is read, the manager started, and the network has come to step 0: here B11 asks for silent
 abbrev atRest : List Call
 atRest = read benchSheet ∷ start ∷ down
 
+-- full was told on the last of these ticks: step 4 with tick count 0
 abbrev inStep4 : List Call
 inStep4 = atRest ++ up
 
+-- three ticks more, the ensure time, and passed was told: step 5, where B9 and B10 begin
 abbrev inStep5 : List Call
 inStep5 = inStep4 ++ (ticks ∷ ticks ∷ ticks ∷ [])
 
@@ -109,9 +120,11 @@ inStep5 = inStep4 ++ (ticks ∷ ticks ∷ ticks ∷ [])
 abbrev back : List Call
 back = busOff 3 9 ∷ ticks ∷ answer 3 1 1 ∷ ticks ∷ []
 
+-- what the calls of `back` give: the records of a bus-off, the request to start, an answer that is taken, TX offline
 abbrev backSeen : List Seen
 backSeen = busOffTold ∷ takenWith (handed 1 3 1) ∷ taken ∷ takenWith (handed 3 3 1) ∷ []
 
+-- "They stand as a single list under a single proved statement about the definitions"
 abbrev pub benchCases : List Case
 benchCases =
     -- B1 empty: 38 at 0

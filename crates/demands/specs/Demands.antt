@@ -26,6 +26,7 @@ pub record Begun (m₀ : Manager) : Type 0 where
 abbrev pub paperNeeds : Manager → ℕ
 paperNeeds m = 3 * (allControllers (networksOf m) + 2 * length (networksOf m))
 
+-- the three sentences of demand 3, of one network; `said-from` is the third again, by the mode last told
 pub record Demand3 (m₀ : Manager) (n : Network) : Type 0 where
   pub answered : (m : Manager) (h : History) → Since m₀ m h → Answered n h
   pub delayed : (m : Manager) (s : History) (b : Entry) (h : History) → Since m₀ m (s ++ (b ∷ h)) → Delayed n s b h

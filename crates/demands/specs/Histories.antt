@@ -57,6 +57,7 @@ pub record Summary : Type 0 where
   pub ticks : ℕ
   pub due : ℕ
 
+-- told is at the end of all; further-bus-off, shutdown and ticks are of what is after b; due is the delay of b plus two
 abbrev summaryOf : Network → History → Entry → History → Summary
 summaryOf n after b earlier =
     record {
@@ -75,9 +76,11 @@ summaryBy before after =
     let b = busOff 3 9 in
     summaryOf (networkAt (startedBy benchSheet) 0) (historyOf (outcome m b .manager) after []) (entryOf m b) (lived benchSheet before)
 
+-- the calls from the start to step 5: down to step 0, up to step 4, and the ensure time of three ticks
 abbrev step5 : List Call
 step5 = down ++ (up ++ (tick 9 ∷ tick 9 ∷ tick 9 ∷ []))
 
+-- after a bus-off: the tick that asks controller 3 to start, its ok, and the tick that enters step 7
 abbrev restarted : List Call
 restarted = tick 9 ∷ answer 3 1 1 ∷ tick 9 ∷ []
 
@@ -92,6 +95,7 @@ pub full-after-the-short-delay : summaryBy step5 (restarted ++ (tick 9 ∷ tick 
 unfolding any every first holds measured front onto past rows blankNetwork blankSettings used layoutOf byteEntry timesEntry wholeEntry entryField opensWith opens begun withController withTransceiver withTimes withThreshold withPartial onController onTransceiver onTimes onThreshold onPartial goesOn pushed refusedAt closed afterOpening afterEntry sheet readFrom bytes decision requests entering enteringFull enteringSilent downNotices goingDown moveRecords recovery recordsAt started wants isDone delayOf moveOf afterMove tickState tickRecords takesReport afterAnswer afterReport hitOf madeAnew afterHit hitRecords each allRecords shares tickNeeds readOf startOf slotOf requestAt requestOf pollOf reportAt answerAt controllerAnswerOf busOffOf busOffBuffer tickOf tickBuffer outcome handedOut run holderOf historyOf told toldBy since tally clearDoneOf checkDoneOf transceiverAt transceiverModeOf
 full-after-the-short-delay = refl
 
+-- on the third tick after the bus-off silent is still told, where full is due on the fourth
 pub not-full-before : summaryBy step5 (restarted ++ (tick 9 ∷ [])) ≡ record { told = 1; up-bus-off = true; further-bus-off = false; shutdown = false; ticks = 3; due = 4 }
 unfolding any every first holds measured front onto past rows blankNetwork blankSettings used layoutOf byteEntry timesEntry wholeEntry entryField opensWith opens begun withController withTransceiver withTimes withThreshold withPartial onController onTransceiver onTimes onThreshold onPartial goesOn pushed refusedAt closed afterOpening afterEntry sheet readFrom bytes decision requests entering enteringFull enteringSilent downNotices goingDown moveRecords recovery recordsAt started wants isDone delayOf moveOf afterMove tickState tickRecords takesReport afterAnswer afterReport hitOf madeAnew afterHit hitRecords each allRecords shares tickNeeds readOf startOf slotOf requestAt requestOf pollOf reportAt answerAt controllerAnswerOf busOffOf busOffBuffer tickOf tickBuffer outcome handedOut run holderOf historyOf told toldBy since tally clearDoneOf checkDoneOf transceiverAt transceiverModeOf
 not-full-before = refl
@@ -113,14 +117,17 @@ partialSheet =
     ∷ 0x05 ∷ 0 ∷ 1 ∷ 1
     ∷ 0x06 ∷ 0 ∷ 1 ∷ 1 ∷ []
 
+-- controllers 1 and 2 answer ok to the request for a mode
 abbrev both : ℕ → List Call
 both mode = answer 1 mode 1 ∷ answer 2 mode 1 ∷ []
 
+-- down by steps 9, 10, 11, 12, 13 to 0; full is wanted; up by steps 1, 2, 3 to 4. A tick here needs 3 x (2 + 2 x 1) = 12 bytes
 abbrev downAndUp : List Call
 downAndUp =
     (tick 12 ∷ clearDone 4 ∷ tick 12 ∷ both 0) ++ (tick 12 ∷ transceiverMode 4 1 ∷ tick 12 ∷ both 2) ++ (tick 12 ∷ checkDone 4 ∷ tick 12 ∷ request 9 2 ∷ [])
     ++ (tick 12 ∷ transceiverMode 4 0 ∷ tick 12 ∷ both 0) ++ (tick 12 ∷ both 1) ++ (tick 12 ∷ [])
 
+-- with partial networking: full is told at the end of these calls
 pub full-with-partial-networking : told (networkAt (startedBy partialSheet) 0) (lived partialSheet downAndUp) ≡ 2
 unfolding any every first holds measured front onto past rows blankNetwork blankSettings used layoutOf byteEntry timesEntry wholeEntry entryField opensWith opens begun withController withTransceiver withTimes withThreshold withPartial onController onTransceiver onTimes onThreshold onPartial goesOn pushed refusedAt closed afterOpening afterEntry sheet readFrom bytes decision requests entering enteringFull enteringSilent downNotices goingDown moveRecords recovery recordsAt started wants isDone delayOf moveOf afterMove tickState tickRecords takesReport afterAnswer afterReport hitOf madeAnew afterHit hitRecords each allRecords shares tickNeeds readOf startOf slotOf requestAt requestOf pollOf reportAt answerAt controllerAnswerOf busOffOf busOffBuffer tickOf tickBuffer outcome handedOut run holderOf historyOf told toldBy since tally clearDoneOf checkDoneOf transceiverAt transceiverModeOf
 full-with-partial-networking = refl

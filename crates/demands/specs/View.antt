@@ -26,9 +26,11 @@ concerns n (clearDone transceiver) = member transceiver (transceiversOf n)
 concerns n (checkDone transceiver) = member transceiver (transceiversOf n)
 concerns n (tick room) = true
 
+-- an entry as the network sees it: number 0 where the call does not concern it, and of the records only its own
 abbrev pub viewOf : Network → Entry → Entry
 viewOf n e =
     record { call = e .call; number = cond (concerns n (e .call)) (e .number) 0; mode = e .mode; records = keep (ownRecord n) (e .records) }
 
+-- each entry of a history so viewed; none is left out, so that the ticks count as before
 abbrev pub viewsOf : Network → History → History
 viewsOf n h = map (viewOf n) h

@@ -16,36 +16,46 @@ use Rattle.settings.specs.Settings.{controllersOf, member}
 use Rattle.network_demands.specs.Calls.{Call, request, busOff, answer, tick, Entry, History}
 use Rattle.network_demands.specs.Words.{since, tally, toldBy, told, wanted, runs, waiting, Prompt, FullAtTicks, Good, Answered, Delayed, SaidFrom}
 
+-- as the bench sheet says it: beside the numbers above, ensure time 3, no transceiver, no partial networking
 abbrev pub network : Network
 network =
     record { handle = 7; count = 1; controllers = 3 ∷ 0 ∷ 0 ∷ 0 ∷ []; transceiver = Transceiver.Absent; short = 2; long = 5; ensure = 3; threshold = 1; partial = false }
 
 -- ---- entries of accepted calls
 
+-- a call that was accepted, with the records that the box handed out on it
 abbrev taken : Call → List Record → Entry
 taken call records = record { call = call; number = 0; mode = 0; records = records }
 
+-- a tick that is lent just the 9 bytes that it needs
 abbrev ticks : List Record → Entry
 ticks records = taken (tick 9) records
 
+-- a tick that asks controller 3 to start: kind 1, argument 1
 abbrev asks : Entry
 asks = ticks (handed 1 3 1 ∷ [])
 
+-- controller 3 answers that it runs: mode started, ok 1
 abbrev answers : Entry
 answers = taken (answer 3 1 1) []
 
+-- a request for handle 7: 0 no, 1 silent, 2 full
 abbrev wants : ℕ → Entry
 wants mode = taken (request 7 mode) []
 
+-- a tick that hands out "3 online for each, 6 full, 7 full"
 abbrev tellsFull : Entry
 tellsFull = ticks (handed 3 3 0 ∷ handed 6 7 2 ∷ handed 7 7 2 ∷ [])
 
+-- a tick that hands out "3 TX offline for each, 6 silent, 7 silent"
 abbrev tellsSilent : Entry
 tellsSilent = ticks (handed 3 3 1 ∷ handed 6 7 1 ∷ handed 7 7 1 ∷ [])
 
+-- the tick that enters step 7: "3 TX offline for each controller"
 abbrev waits : Entry
 waits = ticks (handed 3 3 1 ∷ [])
 
+-- a bus-off of controller 3 while up: "8 prefailed, 6 silent, 7 bus-off"
 abbrev falls : Entry
 falls = taken (busOff 3 9) (handed 8 7 1 ∷ handed 6 7 1 ∷ handed 7 7 3 ∷ [])
 

@@ -15,9 +15,9 @@ use Rattle.entries.specs.declared.Entry.the-variants.{End, Bad}
 use Rattle.entries.specs.declared.Layout.{Layout}
 use Rattle.entries.specs.declared.Layout.the-variants.{Unknown, Wrong, Byte}
 
--- "1 or 2 bytes left (30); unknown tag (31); length not that of the tag (32); value cut (30); tag not allowed here by the order of fields
--- (33); value out of range (34); id used before (35); ninth network or fifth controller (36); PN without transceiver (37)"; "no network at
--- all gives 38"
+-- "1 or 2 bytes left (30); unknown tag (31); length not that of the tag (32); value cut (30); tag not allowed here by the order of
+-- fields, however many there are (33); value out of range (34); id used before (35); ninth network or fifth controller (36); PN without
+-- transceiver (37)"; "no network at all gives 38"
 abbrev pub faultNumber : Fault → ℕ
 faultNumber Cut = 0x30
 faultNumber UnknownTag = 0x31
@@ -59,6 +59,7 @@ wholeEntry Wrong tag v = Bad WrongLength
 wholeEntry Byte tag v = byteEntry tag (getD v 0 0)
 wholeEntry Layout.Times tag v = timesEntry v
 
+-- a whole field by its tag and its value, whose length is held against the tag: "unknown tag (31); length not that of the tag (32)"
 unfoldable pub entryOf : ℕ → List ℕ → Entry
 entryOf tag v = wholeEntry (layoutOf tag (length v)) tag v
 

@@ -25,12 +25,14 @@ use Rattle.entries.specs.declared.Moved.{Moved}
 
 -- ---- where a network may begin: field 01, or the end
 
+-- a handle, which any byte can be: "id used before (35); ninth network or fifth controller (36)"
 unfoldable pub opensWith : Settings → ℕ → Opening
 opensWith s handle =
     cond (used (OfNetwork handle) (networksOf s)) (Refuses UsedBefore)
     (cond (leb mostNetworks (s .count)) (Refuses TooMany)
     (Begins handle))
 
+-- "tag not allowed here by the order of fields, however many there are (33)": only field 01 or the end is allowed
 unfoldable pub opens : Settings → Entry → Opening
 opens s End = Closes
 opens s (Bad fault) = Refuses fault
@@ -48,6 +50,7 @@ begun handle =
 
 -- ---- the order of fields: 01, then one to four 02, then 03 or none, then 04, 05 and 06
 
+-- field 02 comes after 01 or another 02; a fifth one is no fault of the order
 abbrev pub takesController : Phase → Bool
 takesController Named = true
 takesController Listed = true
@@ -55,6 +58,7 @@ takesController Fitted = false
 takesController Timed = false
 takesController Limited = false
 
+-- field 03 comes after a 02, and once at most
 abbrev pub takesTransceiver : Phase → Bool
 takesTransceiver Named = false
 takesTransceiver Listed = true
@@ -62,6 +66,7 @@ takesTransceiver Fitted = false
 takesTransceiver Timed = false
 takesTransceiver Limited = false
 
+-- field 04 comes after a 02 or, with a transceiver, after 03
 abbrev pub takesTimes : Phase → Bool
 takesTimes Named = false
 takesTimes Listed = true
@@ -69,6 +74,7 @@ takesTimes Fitted = true
 takesTimes Timed = false
 takesTimes Limited = false
 
+-- field 05 comes after 04 only
 abbrev pub takesThreshold : Phase → Bool
 takesThreshold Named = false
 takesThreshold Listed = false
@@ -76,6 +82,7 @@ takesThreshold Fitted = false
 takesThreshold Timed = true
 takesThreshold Limited = false
 
+-- field 06 comes after 05 only, and is the last of its network
 abbrev pub takesPartial : Phase → Bool
 takesPartial Named = false
 takesPartial Listed = false
@@ -85,15 +92,19 @@ takesPartial Limited = true
 
 -- ---- each field in a network
 
+-- refused with a fault; the unfinished network is as it was before the field
 abbrev pub refused : Fault → Network → Moved
 refused fault n = record { to = Move.Refused fault; network = n }
 
+-- the field is taken and the network is not yet whole; the phase says which field was the last
 abbrev pub more : Phase → Network → Moved
 more phase n = record { to = More phase; network = n }
 
+-- the network has all its fields; next is "a sheet or its end"
 abbrev pub whole : Network → Moved
 whole n = record { to = Whole; network = n }
 
+-- the id goes into the first unused slot, so that the slots have the order of the sheet
 unfoldable pub withController : Network → ℕ → Network
 withController n id =
     record {
@@ -119,6 +130,7 @@ onController s n phase id =
     (more Listed (withController n id))))))
     (refused OutOfOrder n)
 
+-- field 03 is stored: from here on the network has a transceiver
 unfoldable pub withTransceiver : Network → ℕ → Network
 withTransceiver n id =
     record {
@@ -142,6 +154,7 @@ onTransceiver s n phase id =
     (more Fitted (withTransceiver n id))))
     (refused OutOfOrder n)
 
+-- field 04 is stored, in ticks; "L2 may be below L1"
 unfoldable pub withTimes : Network → ℕ → ℕ → ℕ → Network
 withTimes n short long ensure =
     record {
@@ -166,6 +179,7 @@ onTimes n phase short long ensure =
     (more Timed (withTimes n short long ensure)))))
     (refused OutOfOrder n)
 
+-- field 05 is stored: a bus-off count above it brings the long delay
 unfoldable pub withThreshold : Network → ℕ → Network
 withThreshold n threshold =
     record {
@@ -188,6 +202,7 @@ onThreshold n phase threshold =
     (more Limited (withThreshold n threshold)))
     (refused OutOfOrder n)
 
+-- field 06 is stored: with PN the network goes down by steps 9 to 14
 unfoldable pub withPartial : Network → Bool → Network
 withPartial n partial =
     record {
@@ -202,6 +217,7 @@ withPartial n partial =
       partial = partial;
     }
 
+-- field 03 has come: without it PN is refused
 abbrev pub present : Transceiver → Bool
 present Absent = false
 present (Present id) = true

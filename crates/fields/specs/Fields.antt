@@ -27,6 +27,7 @@ front at (tag ∷ high ∷ low ∷ v) = measured at tag (high * 256 + low) v
 
 -- "A sheet is a row of fields": each with its place, its tag and its value; the row ends at the end of the bytes, at one or two bytes
 -- that are left, or at a field whose value runs past the end
+-- (stop: the place; stub: place and tag; overrun: place, tag and the length as written; field: place, tag, value and the rest of the row)
 pub data Row : Type 0 where
   stop : ℕ → Row
   stub : ℕ → ℕ → Row

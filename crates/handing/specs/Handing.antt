@@ -59,6 +59,7 @@ enteringSilent n = entering n PduMode.TxOffline Mode.Silent Notice.Silent
 unfoldable pub downNotices : ℕ → Mode → List Record
 downNotices handle told = notes handle Notice.No ∷ byMode told [] [] (tells handle Mode.Silent ∷ [])
 
+-- these notices, then the requests of "its first down step (9 with PN, else 10)"
 unfoldable pub goingDown : Network → Mode → List Record
 goingDown n told = downNotices (n .handle) told ++ requests (asksFor (firstDown (n .partial))) n
 

@@ -34,6 +34,7 @@ use Rattle.manager.specs.Manager.{networksOf, settingsOf, blankStates, n
 
 -- ---- the sheet and the start
 
+-- a manager before any call: no sheet, every slot blank
 abbrev pub newManager : Manager
 newManager = record { stage = Stage.Empty; count = 0; networks = replicate mostNetworks blankNetwork; states = blankStates }
 
@@ -53,11 +54,12 @@ afterReading m r SheetAnswer.Accepted =
     record { answer = Answer.Accepted; manager = loaded (r .settings); count = r .settings .count; mode = 0; place = r .place }
 afterReading m r (SheetAnswer.Refused fault) = record { answer = Answer.Sheet fault; manager = m; count = 0; mode = 0; place = r .place }
 
--- "0B: read or start on a started manager": the bytes are not looked at, the place is 0
+-- 0B: "read or start on a started manager": the bytes are not looked at, the place is 0
 unfoldable pub readOf : Manager → List ℕ → Outcome
 readOf m b =
     byStage (m .stage) (afterReading m (decode b) (decode b .answer)) (afterReading m (decode b) (decode b .answer)) (refused m Answer.Running)
 
+-- "The writer writes from the front too and returns its sheet's length."; a buffer that is too short gives 20
 abbrev pub afterWriting : Manager → Written → Outcome
 afterWriting m Written.Short = refused m Answer.TooShort
 afterWriting m (Written.Length n) = accepted m n
@@ -67,6 +69,7 @@ unfoldable pub writeOf : Manager → List ℕ → Outcome
 writeOf m b =
     byStage (m .stage) (refused m Answer.NotReady) (afterWriting m (written (settingsOf m) b)) (afterWriting m (written (settingsOf m) b))
 
+-- every byte of the lent buffer after writing; without a sheet they stay
 unfoldable pub writeBuffer : Manager → List ℕ → List ℕ
 writeBuffer m b = byStage (m .stage) b (bufferAfter (settingsOf m) b) (bufferAfter (settingsOf m) b)
 
@@ -86,6 +89,7 @@ abbrev pub slotAt : Holder → Slot
 slotAt (Holder.At i) = Slot.At i
 slotAt Holder.Nobody = Slot.Nobody
 
+-- before the start no id is looked up: "the call needs a started manager"
 unfoldable pub slotOf : Manager → Id → Slot
 slotOf m id = byStage (m .stage) Slot.NotReady Slot.NotReady (slotAt (holderOf id (networksOf m)))
 
@@ -102,6 +106,7 @@ abbrev pub withMode : ℕ → Outcome → (Mode → Outcome) → Outcome
 withMode number none found =
     cond (eqb number 0) (found Mode.No) (cond (eqb number 1) (found Mode.Silent) (cond (eqb number 2) (found Mode.Full) none))
 
+-- slot i wants the mode from now on, and nothing is handed out; 08 where its step does not allow silent
 unfoldable pub requestAt : Manager → ℕ → Mode → Outcome
 requestAt m i mode =
     cond (mayWant (stateAt m i .step) mode) (accepted (withState m i (wants (stateAt m i) mode)) 0) (refused m Answer.NotUp)
@@ -111,6 +116,7 @@ unfoldable pub requestOf : Manager → ℕ → ℕ → Outcome
 requestOf m handle mode =
     bySlot m (slotOf m (Id.OfNetwork handle)) Answer.NoHandle (λ i. withMode mode (refused m Answer.OutOfRange) (λ wanted. requestAt m i wanted))
 
+-- "the mode last told by kind 6 (what polling gives)", as its number; the manager stays
 abbrev pub polled : Manager → Mode → Outcome
 polled m told = record { answer = Answer.Accepted; manager = m; count = 0; mode = modeNumber told; place = 0 }
 
@@ -121,9 +127,11 @@ pollOf m handle =
 
 -- ---- from below
 
+-- "an answer or bus-off that the step doesn't take" gives 22; a report that is taken makes the record of slot i `after`
 unfoldable pub reportAt : Manager → ℕ → Report → State → Outcome
 reportAt m i report after = cond (takesReport (stateAt m i) report) (accepted (withState m i after) 0) (refused m Answer.NotTaken)
 
+-- "mode 0 to 2, ok 0 or 1": the ranges are tested (21) before the step is (22)
 unfoldable pub answerAt : Manager → ℕ → ℕ → ℕ → ℕ → Outcome
 answerAt m i id mode ok =
     cond (ltb 2 mode) (refused m Answer.OutOfRange)
@@ -134,6 +142,7 @@ answerAt m i id mode ok =
 unfoldable pub controllerAnswerOf : Manager → ℕ → ℕ → ℕ → Outcome
 controllerAnswerOf m id mode ok = bySlot m (slotOf m (Id.OfController id)) Answer.NoController (λ i. answerAt m i id mode ok)
 
+-- "A transceiver mode (0 to 2) likewise in 1 and 11": 2 is in range, but no step asks for it, so that it gives 22
 unfoldable pub transceiverAt : Manager → ℕ → ℕ → Outcome
 transceiverAt m i mode = cond (ltb 2 mode) (refused m Answer.OutOfRange) (reportAt m i (Report.Transceiver mode) (afterReport (stateAt m i)))
 
@@ -145,6 +154,7 @@ transceiverModeOf m id mode = bySlot m (slotOf m (Id.OfTransceiver id)) Answer.N
 unfoldable pub clearDoneOf : Manager → ℕ → Outcome
 clearDoneOf m id = bySlot m (slotOf m (Id.OfTransceiver id)) Answer.NoTransceiver (λ i. reportAt m i Report.Cleared (afterReport (stateAt m i)))
 
+-- "check done in 13 and 14, once asked. Else 22."
 unfoldable pub checkDoneOf : Manager → ℕ → Outcome
 checkDoneOf m id = bySlot m (slotOf m (Id.OfTransceiver id)) Answer.NoTransceiver (λ i. reportAt m i Report.Checked (afterReport (stateAt m i)))
 
@@ -158,6 +168,7 @@ bufferWith b rs = bytes rs ++ drop (3 * length rs) b
 abbrev pub busOffNeeds : ℕ
 busOffNeeds = 9
 
+-- what a bus-off gives by what it does to slot i: recovery with its records, a restart without any, or 22
 abbrev pub hitOutcome : Manager → ℕ → Hit → Outcome
 hitOutcome m i Hit.Recover = accepted (withState m i (afterHit (stateAt m i) Hit.Recover)) (length (hitRecords (networkAt m i) Hit.Recover))
 hitOutcome m i Hit.Restart = accepted (withState m i (afterHit (stateAt m i) Hit.Restart)) 0
@@ -169,11 +180,13 @@ busOffOf m id b =
     whenStarted m (cond (ltb (length b) busOffNeeds) (refused m Answer.TooShort)
     (bySlot m (slotOf m (Id.OfController id)) Answer.NoController (λ i. hitOutcome m i (hitOf (stateAt m i .step)))))
 
+-- the buffer after a bus-off by the slot that its controller names; where nothing is handed out every byte stays
 abbrev pub slotBuffer : Manager → Slot → List ℕ → List ℕ
 slotBuffer m Slot.NotReady b = b
 slotBuffer m Slot.Nobody b = b
 slotBuffer m (Slot.At i) b = bufferWith b (hitRecords (networkAt m i) (hitOf (stateAt m i .step)))
 
+-- every byte of the lent buffer after a bus-off; before the start, and with less than 9 bytes, they stay
 unfoldable pub busOffBuffer : Manager → ℕ → List ℕ → List ℕ
 busOffBuffer m id b = byStage (m .stage) b b (cond (ltb (length b) busOffNeeds) b (slotBuffer m (slotOf m (Id.OfController id)) b))
 
@@ -183,6 +196,7 @@ tickOf m b =
     whenStarted m (cond (ltb (length b) (tickNeeds m)) (refused m Answer.TooShort)
     (accepted (withStates m Stage.Started (each tickState (networksOf m) (m .states))) (length (allRecords (networksOf m) (m .states)))))
 
+-- every byte of the lent buffer after a tick; a refused tick leaves them alone
 unfoldable pub tickBuffer : Manager → List ℕ → List ℕ
 tickBuffer m b =
     byStage (m .stage) b b (cond (ltb (length b) (tickNeeds m)) b (bufferWith b (allRecords (networksOf m) (m .states))))

@@ -36,6 +36,7 @@ answerNumber (Answer.Sheet fault) = faultNumber fault
 abbrev pub networksOf : Manager → List Network
 networksOf m = take (m .count) (m .networks)
 
+-- the settings of the last accepted sheet: what the writer writes
 abbrev pub settingsOf : Manager → Settings
 settingsOf m = record { networks = m .networks; count = m .count }
 
@@ -43,6 +44,7 @@ settingsOf m = record { networks = m .networks; count = m .count }
 abbrev pub blankState : State
 blankState = record { step = Step.NoCommunication; wanted = Mode.No; told = Mode.No; count = 0; asked = false; answers = blankAnswers; reported = false }
 
+-- one for each of the 8 slots: the records before the start
 abbrev pub blankStates : List State
 blankStates = replicate mostNetworks blankState
 
@@ -50,12 +52,15 @@ blankStates = replicate mostNetworks blankState
 abbrev pub networkAt : Manager → ℕ → Network
 networkAt m i = getD (m .networks) i blankNetwork
 
+-- the record of slot i; past the last slot it is the blank one
 abbrev pub stateAt : Manager → ℕ → State
 stateAt m i = getD (m .states) i blankState
 
+-- the record of slot i is new; the stage, the networks and all other records stay
 abbrev pub withState : Manager → ℕ → State → Manager
 withState m i s = record { stage = m .stage; count = m .count; networks = m .networks; states = set (m .states) i s }
 
+-- all records are new, and the stage may be: on a start and on a tick
 abbrev pub withStates : Manager → Stage → List State → Manager
 withStates m stage states = record { stage = stage; count = m .count; networks = m .networks; states = states }
 
@@ -63,6 +68,7 @@ withStates m stage states = record { stage = stage; count = m .count; networks =
 abbrev pub refused : Manager → Answer → Outcome
 refused m answer = record { answer = answer; manager = m; count = 0; mode = 0; place = 0 }
 
+-- accepted with a count, of records or of bytes written; only a poll gives a mode and only a read a place
 abbrev pub accepted : Manager → ℕ → Outcome
 accepted m count = record { answer = Answer.Accepted; manager = m; count = count; mode = 0; place = 0 }
 
@@ -83,6 +89,7 @@ allRecords (n ∷ ns) (s ∷ ss) = tickRecords n s ++ allRecords ns ss
 abbrev pub share : Network → ℕ
 share n = max 1 (length (controllersOf n)) + 2
 
+-- how many records one tick may hand out, over all networks
 unfoldable pub shares : List Network → ℕ
 shares [] = 0
 shares (n ∷ ns) = share n + shares ns

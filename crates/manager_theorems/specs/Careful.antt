@@ -19,6 +19,7 @@ use Rattle.manager.specs.declared.Outcome.{Outcome}
 use Rattle.manager.specs.Manager.{networksOf, networkAt, stateAt}
 use Rattle.manager.specs.Calls.{newManager, readOf, writeOf, startOf, requestOf, pollOf, controllerAnswerOf, transceiverModeOf, clearDoneOf, checkDoneOf, bufferWith, busOffOf, tickOf}
 
+-- the one answer that is no refusal: "0 means accepted"
 abbrev pub isAccepted : Answer → Bool
 isAccepted Answer.Accepted = true
 isAccepted Answer.NotReady = false
@@ -38,6 +39,7 @@ pub record Refuses (m : Manager) (o : Outcome) : Type 0 where
   pub count : o .count ≡ 0
   pub mode : o .mode ≡ 0
 
+-- whichever refusal is the answer, the manager stays, and the count and the polled mode are 0
 abbrev pub Careful : Manager → Outcome → Type 0
 Careful m o = isAccepted (o .answer) ≡ false → Refuses m o
 
@@ -47,7 +49,7 @@ pub record LeavesOthers (m : Manager) (slot : Slot) (o : Outcome) : Type 0 where
   pub count : o .manager .count ≡ m .count
   pub others : (j : ℕ) → (slot ≡ Slot.At j → ⊥) → stateAt (o .manager) j ≡ stateAt m j
 
--- "The count returned is the number of records written; bytes after them are as before", of a call that was lent `b` and left `after`
+-- "The count is returned and later bytes stay.", of a call that was lent `b` and left `after`
 pub record HandsOut (b : List ℕ) (o : Outcome) (after : List ℕ) : Type 0 where
   pub records : List Record
   pub count : o .count ≡ length records

@@ -37,9 +37,11 @@ awaits Ask.CheckWake (Report.Transceiver mode) = false
 awaits Ask.CheckWake Report.Cleared = false
 awaits Ask.CheckWake Report.Checked = true
 
+-- a step that has not asked takes nothing: "a started answer between bus-off and next tick: 22"
 unfoldable pub takesReport : State → Report → Bool
 takesReport s report = cond (s .asked) (awaits (asksFor (s .step)) report) false
 
+-- "ok 0 or 1": 1, here true, is ok; 0 is a refusal
 abbrev pub answerOf : Bool → Answer
 answerOf ok = cond ok Answer.Okay Answer.Refused
 

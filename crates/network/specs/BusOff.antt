@@ -33,6 +33,7 @@ isStarting ControllersSleep = false
 isStarting CheckWake = false
 isStarting CheckWakeAgain = false
 
+-- "In 4 to 8" recovery begins; "In 3" the controllers are asked anew; "Elsewhere 22"
 unfoldable pub hitOf : Step → Hit
 hitOf step = cond (isUp step) Hit.Recover (cond (isStarting step) Hit.Restart Hit.NotTaken)
 
@@ -49,11 +50,13 @@ unfoldable pub madeAnew : State → Step → Mode → ℕ → State
 madeAnew s step told count =
     record { step = step; wanted = s .wanted; told = told; count = count; asked = false; answers = blankAnswers; reported = false }
 
+-- recovery: step 6, told silent, count up; in step 3 the step, the told mode and the count stay; where it is not taken all stays
 unfoldable pub afterHit : State → Hit → State
 afterHit s Hit.Recover = madeAnew s Restarting Mode.Silent (countedIn (s .step) (s .count))
 afterHit s Hit.Restart = madeAnew s (s .step) (s .told) (s .count)
 afterHit s Hit.NotTaken = s
 
+-- the three records of recovery; in step 3 "nothing handed out", nor where it is not taken
 unfoldable pub hitRecords : Network → Hit → List Record
 hitRecords n Hit.Recover = recovery (n .handle)
 hitRecords n Hit.Restart = []

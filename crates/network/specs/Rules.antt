@@ -18,19 +18,23 @@ use Rattle.network.specs.declared.Heard.{Heard}
 use Rattle.network.specs.declared.State.{State}
 use Rattle.network.specs.State.{heardOf}
 
+-- the controller answered ok in this step; one that has not answered yet is not ok
 abbrev pub okay : Answer → Bool
 okay Answer.Pending = false
 okay Answer.Okay = true
 okay Answer.Refused = false
 
+-- the controller answered with ok 0; no answer is no refusal
 abbrev pub refusal : Answer → Bool
 refusal Answer.Pending = false
 refusal Answer.Okay = false
 refusal Answer.Refused = true
 
+-- the slot of a controller holds an ok
 abbrev pub isOkay : Heard → Bool
 isOkay h = okay (h .answer)
 
+-- the slot of a controller holds a refusal: step 12 with PN looks for one
 abbrev pub isRefusal : Heard → Bool
 isRefusal h = refusal (h .answer)
 
@@ -68,6 +72,7 @@ isSleep CheckWakeAgain = false
 abbrev pub isLong : ℕ → ℕ → Bool
 isLong threshold count = ltb threshold count
 
+-- how long step 7 waits at a bus-off count, in ticks
 unfoldable pub delayOf : Network → ℕ → ℕ
 delayOf n count = cond (isLong (n .threshold) count) (n .long) (n .short)
 

@@ -15,6 +15,7 @@ use Rattle.network.specs.declared.Answer.{Answer}
 use Rattle.network.specs.declared.Heard.{Heard}
 use Rattle.network.specs.declared.State.{State}
 
+-- the slot of a controller whose last answer is this
 abbrev pub heard : Answer → Heard
 heard answer = record { answer = answer }
 
@@ -36,6 +37,6 @@ unfoldable pub wants : State → Mode → State
 wants s mode =
     record { step = s .step; wanted = mode; told = s .told; count = s .count; asked = s .asked; answers = s .answers; reported = s .reported }
 
--- "08: silent asked for in a step other than 4 to 8"
+-- 08: "silent asked for in a step other than 4 to 8"
 abbrev pub mayWant : Step → Mode → Bool
 mayWant step mode = byMode mode true (isUp step) true

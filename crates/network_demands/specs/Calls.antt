@@ -62,6 +62,7 @@ pub record Entry : Type 0 where
   pub mode : ℕ
   pub records : List Record
 
+-- what a call on a manager adds to its history
 abbrev pub entryOf : Manager → Call → Entry
 entryOf m c = record { call = c; number = answerNumber (outcome m c .answer); mode = outcome m c .mode; records = handedOut m c }
 

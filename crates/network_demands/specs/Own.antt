@@ -27,6 +27,7 @@ use Rattle.network_demands.specs.Calls.{Call, read, write, start, reques
 
 -- what a call makes of one network
 pub record Part : Type 0 where
+  -- the number of its answer; 0 also where the call is none of its business
   pub number : ℕ
   pub records : List Record
   pub state : State
@@ -35,20 +36,25 @@ pub record Part : Type 0 where
 abbrev pub unmoved : State → ℕ → Part
 unmoved s number = record { number = number; records = []; state = s }
 
+-- accepted, and nothing is handed out: only the record is new
 abbrev pub moved : State → Part
 moved s = record { number = 0; records = []; state = s }
 
+-- a request for one of the three modes: it is stored, or refused with 08
 unfoldable pub requestPart : State → Mode → Part
 requestPart s mode = cond (mayWant (s .step) mode) (moved (wants s mode)) (unmoved s 0x08)
 
+-- a request with the mode as a number: 21 above 2
 abbrev pub modePart : State → ℕ → Part
 modePart s mode =
     cond (eqb mode 0) (requestPart s Mode.No)
     (cond (eqb mode 1) (requestPart s Mode.Silent) (cond (eqb mode 2) (requestPart s Mode.Full) (unmoved s 0x21)))
 
+-- a report that is taken makes the record `after`; else 22
 unfoldable pub reportPart : State → Report → State → Part
 reportPart s report after = cond (takesReport s report) (moved after) (unmoved s 0x22)
 
+-- a controller's answer: 21 for a mode above 2 or an ok above 1, else as any report
 unfoldable pub answerPart : Network → State → ℕ → ℕ → ℕ → Part
 answerPart n s c mode ok =
     cond (ltb 2 mode) (unmoved s 0x21) (cond (ltb 1 ok) (unmoved s 0x21) (reportPart s (Report.Controller mode) (afterAnswer n s c (eqb ok 1))))
@@ -57,6 +63,7 @@ answerPart n s c mode ok =
 abbrev pub slotOf : Network → ℕ → ℕ
 slotOf n c = first (λ (x : ℕ). eqb x c) (controllersOf n)
 
+-- the record after such an answer: the slot of the controller holds it
 abbrev pub heardState : Network → State → ℕ → ℕ → State
 heardState n s c ok = withAnswers s (set (s .answers) (slotOf n c) (heard (answerOf (eqb ok 1))))
 
@@ -65,6 +72,7 @@ abbrev pub recoveredState : State → State
 recoveredState s =
     record { step = Restarting; wanted = s .wanted; told = Mode.Silent; count = raised (s .count); asked = false; answers = blankAnswers; reported = false }
 
+-- its records are "8 prefailed, 6 silent, 7 bus-off"
 abbrev pub recoveredPart : Network → State → Part
 recoveredPart n s = record { number = 0; records = recovery (n .handle); state = recoveredState s }
 
@@ -89,6 +97,7 @@ decides n s = decision (s .step) (s .wanted) (finished n s) (any isRefusal (hear
 abbrev pub tickPart : Network → State → Part
 tickPart n s = record { number = 0; records = moveRecords n (s .step) (s .told) (decides n s); state = afterMove n s (decides n s) }
 
+-- a bus-off of one of its controllers, by what the step makes of it; 22 where it takes none
 abbrev pub hitPart : Network → State → Hit → Part
 hitPart n s Hit.Recover = recoveredPart n s
 hitPart n s Hit.Restart = moved (restartedState s)
@@ -120,6 +129,7 @@ pub record Fits (needs : ℕ) (n : Network) (s : State) (e : Entry) : Type 0 whe
   pub number : e .number ≡ partOf needs n s (e .call) .number
   pub records : e .records ≡ partOf needs n s (e .call) .records
 
+-- every entry of a history fits, each on the record that the entries before it left
 unfoldable pub Ran : ℕ → Network → History → Type 0
 Ran needs n [] = Unit {0}
 Ran needs n (e ∷ h) = Fits needs n (stateOf needs n h) e × Ran needs n h

@@ -27,6 +27,7 @@ unfoldable pub since : (Entry → Bool) → History → History
 since p [] = []
 since p (e ∷ h) = cond (p e) [] (e ∷ since p h)
 
+-- no entry passes the test
 abbrev pub never : (Entry → Bool) → History → Type 0
 never p h = any p h ≡ false
 
@@ -37,6 +38,7 @@ tally p (e ∷ h) = cond (p e) (suc (tally p h)) (tally p h)
 
 -- ---- calls
 
+-- a tick, with whatever room and whatever answer
 abbrev pub isTick : Call → Bool
 isTick (read bytes) = false
 isTick (write room) = false
@@ -92,6 +94,7 @@ isRequest n (clearDone transceiver) = false
 isRequest n (checkDone transceiver) = false
 isRequest n (tick room) = false
 
+-- the mode of a request, as its number; 0 of every other call, where it means nothing
 abbrev pub modeAsked : Call → ℕ
 modeAsked (read bytes) = 0
 modeAsked (write room) = 0
@@ -107,6 +110,7 @@ modeAsked (tick room) = 0
 
 -- ---- entries
 
+-- the number of its answer is 0: the call was accepted
 abbrev pub accepted : Entry → Bool
 accepted e = eqb 0 (e .number)
 
@@ -130,30 +134,36 @@ shut n e = hands 7 (n .handle) 0 e
 abbrev pub cleared : Network → Entry → Bool
 cleared n e = hands 8 (n .handle) 0 e
 
+-- a bus-off of the network or the beginning of its shutdown: what a controller answered before it no longer counts
 abbrev pub setback : Network → Entry → Bool
 setback n e = fell n e || shut n e
 
 -- ---- the mode last told by kind 6; no, where none was told
 
+-- after the records of one call: the argument of the last kind 6 that names the handle; where there is none, `mode`, as it was before
 unfoldable pub toldBy : Network → List Record → ℕ → ℕ
 toldBy n [] mode = mode
 toldBy n (r ∷ rs) mode = toldBy n rs (cond (eqb 6 (r .kind) && eqb (n .handle) (r .target)) (r .argument) mode)
 
+-- "A network is said to be full while the mode last told by kind 6 is full": this number is 2
 unfoldable pub told : Network → History → ℕ
 told n [] = 0
 told n (e ∷ h) = toldBy n (e .records) (told n h)
 
 -- ---- the mode last wanted: that of the last accepted request
 
+-- "wanted and told mode no" at the start: 0 where no request was accepted
 unfoldable pub wanted : Network → History → ℕ
 wanted n [] = 0
 wanted n (e ∷ h) = cond (isRequest n (e .call) && accepted e) (modeAsked (e .call)) (wanted n h)
 
 -- ---- a controller runs: its last answer to the request to start is ok, and it was asked before
 
+-- some record of the history asks the controller to start: kind 1, argument 1
 abbrev pub askedToStart : ℕ → History → Bool
 askedToStart c h = any (hands 1 c 1) h
 
+-- the latest accepted answer on started decides: with ok 1 it runs if it was asked before; with ok 0 it does not
 unfoldable pub runs : ℕ → History → Bool
 runs c [] = false
 runs c (e ∷ h) =
@@ -172,6 +182,7 @@ Answered n h = told n h ≡ 2 → (c : ℕ) → member c (controllersOf n) ≡ t
 abbrev pub delayAt : Network → History → ℕ
 delayAt n h = cond (ltb (n .threshold) (tally (fellUp n) (since (cleared n) h))) (n .long) (n .short)
 
+-- if b came while up, s has no further bus-off and no shutdown, and full is told at the end, then s has the delay plus two ticks or more
 abbrev pub Delayed : Network → History → Entry → History → Type 0
 Delayed n s b h =
     fellUp n b ≡ true → never (fell n) s → never (shut n) s → told n (s ++ (b ∷ h)) ≡ 2 → delayAt n (b ∷ h) + 2 ≤ tally ticked s

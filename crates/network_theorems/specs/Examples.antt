@@ -25,12 +25,15 @@ abbrev network : Transceiver → Bool → Network
 network transceiver partial =
     record { handle = 7; controllers = 3 ∷ 4 ∷ 0 ∷ 0 ∷ []; count = 2; transceiver = transceiver; short = 2; long = 5; ensure = 3; threshold = 1; partial = partial }
 
+-- without transceiver: up from step 2, down by 10 and 12
 abbrev bare : Network
 bare = network Transceiver.Absent false
 
+-- with transceiver 6 and without PN: up from step 1, down by 10, 12 and 11
 abbrev fitted : Network
 fitted = network (Transceiver.Present 6) false
 
+-- with transceiver 6 and PN: up from step 1, down by 9, 10, 11, 12 and 13, or 14 and again from 9
 abbrev partial : Network
 partial = network (Transceiver.Present 6) true
 
@@ -43,21 +46,26 @@ at step wanted told count asked first second reported =
 abbrev quiet : Step → Mode → Mode → ℕ → State
 quiet step wanted told count = at step wanted told count false Answer.Pending Answer.Pending false
 
+-- asked, and no answer and no report has come
 abbrev asking : Step → Mode → Mode → ℕ → State
 asking step wanted told count = at step wanted told count true Answer.Pending Answer.Pending false
 
+-- asked, and both controllers answered ok: a controller step is done
 abbrev agreed : Step → Mode → Mode → ℕ → State
 agreed step wanted told count = at step wanted told count true Answer.Okay Answer.Okay false
 
+-- asked, and the report has come: a transceiver, clear or check step is done
 abbrev told-so : Step → Mode → Mode → ℕ → State
 told-so step wanted told count = at step wanted told count true Answer.Pending Answer.Pending true
 
+-- one tick of one network: its settings, its record before, what is handed out, its record after
 pub record Case : Type 0 where
   pub settings : Network
   pub before : State
   pub records : List Record
   pub after : State
 
+-- an example as one line of the list
 abbrev case : Network → State → List Record → State → Case
 case n before records after = record { settings = n; before = before; records = records; after = after }
 
@@ -65,6 +73,7 @@ case n before records after = record { settings = n; before = before; records = 
 abbrev both : ℕ → ℕ → List Record
 both kind argument = handed kind 3 argument ∷ handed kind 4 argument ∷ []
 
+-- above each group stands the rule that it shows
 abbrev pub examples : List Case
 examples =
     -- "0: wanted full, enter 1, or 2 without transceiver."

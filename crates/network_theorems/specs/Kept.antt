@@ -14,6 +14,7 @@ use Rattle.network.specs.declared.Answer.{Answer}
 use Rattle.network.specs.declared.State.{State}
 use Rattle.network.specs.State.{heard, blankAnswers, heardOf}
 
+-- the told mode with which a network is said to be full
 abbrev pub isFullMode : Mode → Bool
 isFullMode Mode.No = false
 isFullMode Mode.Silent = false
@@ -37,6 +38,7 @@ isFullStep ControllersSleep = false
 isFullStep CheckWake = false
 isFullStep CheckWakeAgain = false
 
+-- there is something to ask for: not in steps 0, 4, 5, 7 and 8
 abbrev pub isAsk : Ask → Bool
 isAsk Ask.Nothing = false
 isAsk (Ask.Controllers mode) = true
@@ -48,6 +50,7 @@ isAsk Ask.CheckWake = true
 abbrev pub isAsking : Step → Bool
 isAsking step = isAsk (asksFor step)
 
+-- it holds of a network's record at the start, and every call keeps it
 pub record Kept (n : Network) (s : State) : Type 0 where
   -- told is full exactly in steps 4 and 5
   pub told : isFullMode (s .told) ≡ isFullStep (s .step)

@@ -43,6 +43,7 @@ abbrev pub eventNumber : Event → ℕ
 eventNumber Event.Passed = 0
 eventNumber Event.Prefailed = 1
 
+-- a record by its three numbers, in the order of its bytes
 abbrev pub handed : ℕ → ℕ → ℕ → Record
 handed kind target argument = record { kind = kind; target = target; argument = argument }
 
@@ -50,24 +51,31 @@ handed kind target argument = record { kind = kind; target = target; argument = 
 abbrev pub controllerMode : ℕ → ControllerMode → Record
 controllerMode id mode = handed 1 id (controllerNumber mode)
 
+-- "2 transceiver mode", of the transceiver with this id
 abbrev pub transceiverMode : ℕ → TransceiverMode → Record
 transceiverMode id mode = handed 2 id (transceiverNumber mode)
 
+-- "3 PDU mode of a controller", by its id
 abbrev pub pduMode : ℕ → PduMode → Record
 pduMode id mode = handed 3 id (pduNumber mode)
 
+-- "4 clear wake flag", of the transceiver with this id
 abbrev pub clearWake : ℕ → Record
 clearWake id = handed 4 id 0
 
+-- "5 check wake flag", of the transceiver with this id
 abbrev pub checkWake : ℕ → Record
 checkWake id = handed 5 id 0
 
+-- "6 communication manager": this sets the mode that polling gives
 abbrev pub tells : ℕ → Mode → Record
 tells handle mode = handed 6 handle (modeNumber mode)
 
+-- "7 mode manager": a notice of a network's mode, or of its bus-off
 abbrev pub notes : ℕ → Notice → Record
 notes handle notice = handed 7 handle (noticeNumber notice)
 
+-- "8 event manager": passed is the all-clear, prefailed comes with a bus-off while up
 abbrev pub reports : ℕ → Event → Record
 reports handle event = handed 8 handle (eventNumber event)
 

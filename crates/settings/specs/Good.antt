@@ -46,6 +46,7 @@ pub record InRange (n : Network) : Type 0 where
   -- partial networking needs a transceiver
   pub partial : n .partial ≡ true → n .transceiver ≡ Absent → ⊥
 
+-- every network of a list is in range
 unfoldable pub EachInRange : List Network → Type 0
 EachInRange [] = Unit
 EachInRange (n ∷ ns) = InRange n × EachInRange ns

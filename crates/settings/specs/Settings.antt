@@ -19,6 +19,7 @@ use Rattle.settings.specs.declared.Holder.the-variants.{At, Nobody}
 abbrev pub mostNetworks : ℕ
 mostNetworks = 8
 
+-- in one network: a "fifth controller (36)" is refused
 abbrev pub mostControllers : ℕ
 mostControllers = 4
 
@@ -26,16 +27,20 @@ mostControllers = 4
 abbrev pub controllerIds : ℕ
 controllerIds = 32
 
+-- 8 is the first number that is no transceiver id
 abbrev pub transceiverIds : ℕ
 transceiverIds = 8
 
+-- 255 is no threshold: a bus-off count, "staying at 255", can exceed every threshold
 abbrev pub thresholds : ℕ
 thresholds = 255
 
+-- an unused slot: no controller and every time 0, which no sheet can say
 unfoldable pub blankNetwork : Network
 blankNetwork =
     record { handle = 0; controllers = replicate mostControllers 0; count = 0; transceiver = Absent; short = 0; long = 0; ensure = 0; threshold = 0; partial = false }
 
+-- no network: what reading begins with, and what stands beside a refusal
 unfoldable pub blankSettings : Settings
 blankSettings = record { networks = replicate mostNetworks blankNetwork; count = 0 }
 
@@ -47,13 +52,16 @@ networksOf s = take (s .count) (s .networks)
 abbrev pub handlesOf : Network → List ℕ
 handlesOf n = n .handle ∷ []
 
+-- the ids of the controllers without the unused slots, in the order of requests
 abbrev pub controllersOf : Network → List ℕ
 controllersOf n = take (n .count) (n .controllers)
 
+-- a transceiver "may be absent": no id, or one
 abbrev pub listed : Transceiver → List ℕ
 listed Absent = []
 listed (Present x) = x ∷ []
 
+-- no id or one, as a list, so that all three kinds of ids are treated alike
 abbrev pub transceiversOf : Network → List ℕ
 transceiversOf n = listed (n .transceiver)
 
@@ -61,6 +69,7 @@ transceiversOf n = listed (n .transceiver)
 abbrev pub member : ℕ → List ℕ → Bool
 member x l = any (λ (y : ℕ). eqb y x) l
 
+-- a network without transceiver has no transceiver id, not even 0
 abbrev pub hasTransceiver : Transceiver → ℕ → Bool
 hasTransceiver Absent x = false
 hasTransceiver (Present y) x = eqb y x

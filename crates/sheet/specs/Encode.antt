@@ -28,6 +28,7 @@ unfoldable pub encodeTransceiver : Transceiver → List ℕ → List ℕ
 encodeTransceiver Absent l = l
 encodeTransceiver (Present id) l = byteField 0x03 id l
 
+-- the value of field 06: "partial networking (PN), 0 or 1"
 abbrev pub bit : Bool → ℕ
 bit false = 0
 bit true = 1
@@ -42,6 +43,7 @@ encodeNetwork n l =
     (byteField 0x05 (n .threshold)
     (byteField 0x06 (bit (n .partial)) l)))))
 
+-- network after network, in the order of the sheet, then what follows them
 unfoldable pub encodeNetworks : List Network → List ℕ → List ℕ
 encodeNetworks [] l = l
 encodeNetworks (n ∷ ns) l = encodeNetwork n (encodeNetworks ns l)

@@ -11,12 +11,7 @@ abbrev pub answerNumber : Answer → ℕ
 answerNumber Accepted = 0
 answerNumber (Refused fault) = faultNumber fault
 
--- "20: the lent buffer is too short"
+-- 20: "the lent buffer is too short"
 abbrev pub writtenNumber : Written → ℕ
 writtenNumber Short = 0x20
 writtenNumber (Length n) = 0
-
--- "Beside a refusal every count .. [is] 0"
-abbrev pub writtenLength : Written → ℕ
-writtenLength Short = 0
-writtenLength (Length n) = n

@@ -57,6 +57,7 @@ afterMove (Move.Refused fault) n entry at more whole = refusedAt fault (placeOf 
 abbrev pub badAt : Fault → ℕ → Reading
 badAt fault at = refusedAt fault (placeOf fault (Bad fault) at)
 
+-- "reading a sheet and reading a network call each other"; the row of unread fields gets shorter
 unfoldable mutual
   -- where a network may begin
   pub sheet : Row → Settings → Reading

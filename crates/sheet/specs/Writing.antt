@@ -1,5 +1,5 @@
 -- What writing a sheet into a lent buffer gives, from document 01: "The writer writes from the front too and returns its sheet's length";
--- "20: the lent buffer is too short"; "A refusal leaves all records and lent bytes alone"; "later bytes stay".
+-- 20: "the lent buffer is too short"; "A refusal leaves all records and lent bytes alone"; "later bytes stay".
 use Prim.Native.Nat.{ℕ}
 use mathlib.Core.List.{List, _++_}
 use mathlib.Core.Bool.{cond}

@@ -11,6 +11,7 @@ use Rattle.steps.specs.declared.Move.the-variants.{Stay, AskAgain, Count
 abbrev pub risen : ℕ → ℕ
 risen ticks = cond (ltb ticks 65535) (ticks + 1) ticks
 
+-- "the timed steps carry their tick count": it rises in steps 4 and 7, and every other step stays as it is
 abbrev pub counted : Step → Step
 counted NoCommunication = NoCommunication
 counted TransceiverNormal = TransceiverNormal

@@ -28,6 +28,7 @@ withTransceiver Bare a b = a
 withTransceiver Fitted a b = b
 withTransceiver Partial a b = b
 
+-- no is wanted: what a tick looks at first
 abbrev pub isNo : Mode → Bool
 isNo Mode.No = true
 isNo Mode.Silent = false

@@ -7,6 +7,7 @@ use Rattle.steps.specs.declared.Step.{Step}
 use Rattle.steps.specs.declared.Step.the-variants.{NoCommunication, TransceiverNormal, ControllersStopped, ControllersStarted, Checking, Full, Restarting, Waiting, Silent, ClearWake, DownStopped, TransceiverStandby, ControllersSleep, CheckWake, CheckWakeAgain}
 use Rattle.steps.specs.declared.Ask.{Ask}
 
+-- "Each network is always in one of fifteen steps": its number, 0 to 14, whatever its tick count is
 abbrev pub stepNumber : Step → ℕ
 stepNumber NoCommunication = 0
 stepNumber TransceiverNormal = 1

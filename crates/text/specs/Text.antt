@@ -7,12 +7,15 @@ use lib.ListN.{getD, drop}
 use Rattle.records.specs.declared.Record.{Record}
 use Rattle.records.specs.Records.{handed}
 
+-- it stands between the parts of a line
 abbrev pub blank : ℕ
 blank = 32
 
+-- it stands between kind, target and argument
 abbrev pub colon : ℕ
 colon = 58
 
+-- it ends every line, the last one too
 abbrev pub newline : ℕ
 newline = 10
 

@@ -29,6 +29,7 @@ eventOf tag n first second third =
     (cond (eqb tag 0x17) (sized n 1 (Event.Poll first))
     Item.Bad)))))))
 
+-- a whole field by its tag and its value; a byte that the value has not is taken as 0, and no event looks at it
 unfoldable pub itemOf : ℕ → List ℕ → Item
 itemOf tag v = eventOf tag (length v) (getD v 0 0) (getD v 1 0) (getD v 2 0)
 

@@ -13,9 +13,11 @@ use Rattle.trace.specs.Events.{outcomeOf, bufferOf}
 abbrev pub configWord : List ℕ
 configWord = 99 ∷ 111 ∷ 110 ∷ 102 ∷ 105 ∷ 103 ∷ 32 ∷ []
 
+-- s, t, o, p and a blank: what stands before the offset
 abbrev pub stopWord : List ℕ
 stopWord = 115 ∷ 116 ∷ 111 ∷ 112 ∷ 32 ∷ []
 
+-- the whole line with its end: "more: the line `too long`, alone"
 abbrev pub tooLong : List ℕ
 tooLong = 116 ∷ 111 ∷ 111 ∷ 32 ∷ 108 ∷ 111 ∷ 110 ∷ 103 ∷ 10 ∷ []
 
@@ -27,6 +29,7 @@ configLine answer shown = configWord ++ (decimal answer ++ (blank ∷ (decimal s
 unfoldable pub stopLine : ℕ → List ℕ
 stopLine at = stopWord ++ (decimal at ++ (newline ∷ []))
 
+-- the one event whose line ends with a mode and has no records
 abbrev pub isPoll : Event → Bool
 isPoll (Event.Request handle mode) = false
 isPoll (Event.BusOff controller) = false

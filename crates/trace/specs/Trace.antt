@@ -18,11 +18,13 @@ use Rattle.trace.specs.Lines.{configLine, stopLine, eventLine, tooLong}
 
 -- ---- one line
 
+-- the end gives no bytes, a bad field `stop` and its place, an event its numbered line
 abbrev pub itemLine : ℕ → Manager → ℕ → Item → List ℕ
 itemLine number m at Item.End = []
 itemLine number m at Item.Bad = stopLine at
 itemLine number m at (Item.Known event) = eventLine number m event
 
+-- the manager after it: only an event is a call
 abbrev pub itemManager : Manager → Item → Manager
 itemManager m Item.End = m
 itemManager m Item.Bad = m
@@ -38,9 +40,11 @@ itemNext total next (Item.Known event) = next
 unfoldable pub lineAt : ℕ → Manager → List ℕ → ℕ → List ℕ
 lineAt number m s at = itemLine number m at (itemAt (rowAt s at))
 
+-- the manager after what stands at a place; as it was, where no event stands there
 unfoldable pub managerAt : Manager → List ℕ → ℕ → Manager
 managerAt m s at = itemManager m (itemAt (rowAt s at))
 
+-- the place after the event; the input's length where no event stands there, so that no line follows
 unfoldable pub nextAt : List ℕ → ℕ → ℕ
 nextAt s at = itemNext (length s) (nextOf (front at (drop at s)) at) (itemAt (rowAt s at))
 
@@ -54,6 +58,7 @@ readingOf s = readOf newManager (take (eventsFrom s 0) s)
 abbrev pub byReading : {A : Type 0} → Outcome → A → A → A
 byReading o accepted refused = cond (eqb (answerNumber (o .answer)) 0) accepted refused
 
+-- with answer 0 the number of networks is shown, with a refusal its place
 unfoldable pub firstLine : List ℕ → List ℕ
 firstLine s = configLine (answerNumber (readingOf s .answer)) (byReading (readingOf s) (readingOf s .count) (readingOf s .place))
 
@@ -67,6 +72,7 @@ firstNext s = byReading (readingOf s) (eventsFrom s 0) (length s)
 
 -- ---- the whole output
 
+-- an event comes before those of the rest; nothing after a bad field is an event
 abbrev pub decodedItem : Item → List Event → List Event
 decodedItem Item.End rest = []
 decodedItem Item.Bad rest = []
@@ -79,6 +85,7 @@ decoded (stub at tag) = []
 decoded (overrun at tag n) = []
 decoded (field at tag v rest) = decodedItem (itemOf tag v) (decoded rest)
 
+-- a bad field gives `stop` and "its offset in the whole input, the last line"; after an event it is the ending of the rest
 abbrev pub endingItem : ℕ → Item → List (List ℕ) → List (List ℕ)
 endingItem at Item.End rest = []
 endingItem at Item.Bad rest = stopLine at ∷ []

@@ -1,0 +1,1 @@
+// No code: what `cantrace` writes is a history of calls, of which the demands hold.
