@@ -13,7 +13,8 @@ use Rattle.records.specs.declared.ControllerMode.{ControllerMode}
 use Rattle.records.specs.declared.PduMode.{PduMode}
 use Rattle.records.specs.declared.Mode.{Mode}
 use Rattle.records.specs.declared.Notice.{Notice}
-use Rattle.records.specs.Records.{modeNumber, tells, notes}
+use Rattle.records.specs.declared.Event.{Event}
+use Rattle.records.specs.Records.{modeNumber, tells, notes, reports}
 use Rattle.settings.specs.declared.Network.{Network}
 use Rattle.settings.specs.Settings.{controllersOf, listed, member}
 use Rattle.steps.specs.declared.Step.{Step}
@@ -67,18 +68,28 @@ asks-each-to-start n c = named (controllersOf n)
     named [] = refl
     named (x ∷ l) = rw (eqb-swap c x, named l) refl
 
--- ---- which move begins a shutdown: going down, and no other
+-- ---- by what a move hands out with a handle: entering full, entering silent, the all-clear, going down, entering no communication; all others nothing
+abbrev handsBy : Bool → Bool → Bool → Bool → Bool → Move → Bool
+handsBy full silent passed down ended Stay = false
+handsBy full silent passed down ended AskAgain = false
+handsBy full silent passed down ended Count = false
+handsBy full silent passed down ended EnterFull = full
+handsBy full silent passed down ended EnterSilent = silent
+handsBy full silent passed down ended Pass = passed
+handsBy full silent passed down ended Wait = false
+handsBy full silent passed down ended GoDown = down
+handsBy full silent passed down ended EnterNoCommunication = ended
+handsBy full silent passed down ended (Enter next) = false
+
+-- the move that begins a shutdown, the one that gives the all-clear, and the one that tells full
 abbrev pub isGoDown : Move → Bool
-isGoDown Stay = false
-isGoDown AskAgain = false
-isGoDown Count = false
-isGoDown EnterFull = false
-isGoDown EnterSilent = false
-isGoDown Pass = false
-isGoDown Wait = false
-isGoDown GoDown = true
-isGoDown EnterNoCommunication = false
-isGoDown (Enter next) = false
+isGoDown = handsBy false false false true false
+
+abbrev pub isPass : Move → Bool
+isPass = handsBy false false true false false
+
+abbrev pub isEnterFull : Move → Bool
+isEnterFull = handsBy true false false false false
 
 module _ (n : Network) where
   -- ---- what is handed out with a handle: kinds 6 to 8
@@ -87,7 +98,7 @@ module _ (n : Network) where
     not-kind k g = ne-eqb kind k (λ e. omega arith)
 
     -- requests are of no such kind
-    pub requests-hand-none : (ask : Ask) → any (is kind target argument) (requests ask n) ≡ false
+    requests-hand-none : (ask : Ask) → any (is kind target argument) (requests ask n) ≡ false
     unfolding requests any
     requests-hand-none Ask.Nothing = refl
     requests-hand-none (Ask.Controllers mode) = none-of-each (is kind target argument) (roundRecord (Round.Request mode)) (λ x. rw (not-kind 1 (omega arith)) refl) (controllersOf n)
@@ -96,11 +107,11 @@ module _ (n : Network) where
     requests-hand-none Ask.CheckWake = none-of-each (is kind target argument) (errandRecord Errand.Check) (λ x. rw (not-kind 5 (omega arith)) refl) (listed (n .transceiver))
 
     -- PDU modes are of no such kind
-    pub pdu-hands-none : (pdu : PduMode) → any (is kind target argument) (map (roundRecord (Round.Pdu pdu)) (controllersOf n)) ≡ false
+    pdu-hands-none : (pdu : PduMode) → any (is kind target argument) (map (roundRecord (Round.Pdu pdu)) (controllersOf n)) ≡ false
     pdu-hands-none pdu = none-of-each (is kind target argument) (roundRecord (Round.Pdu pdu)) (λ x. rw (not-kind 3 (omega arith)) refl) (controllersOf n)
 
     -- entering hands out two of them
-    pub entering-hands : (pdu : PduMode) (mode : Mode) (notice : Notice)
+    entering-hands : (pdu : PduMode) (mode : Mode) (notice : Notice)
         → any (is kind target argument) (entering n pdu mode notice) ≡ is kind target argument (tells (n .handle) mode) || is kind target argument (notes (n .handle) notice)
     unfolding entering any
     entering-hands pdu mode notice =
@@ -108,7 +119,7 @@ module _ (n : Network) where
         ∙ rw (pdu-hands-none pdu) (ap (λ (b : Bool). is kind target argument (tells (n .handle) mode) || b) (or-false _))
 
     -- going down hands out one, or two
-    pub going-down-hands : (told : Mode) → any (is kind target argument) (goingDown n told) ≡ any (is kind target argument) (downNotices (n .handle) told)
+    going-down-hands : (told : Mode) → any (is kind target argument) (goingDown n told) ≡ any (is kind target argument) (downNotices (n .handle) told)
     unfolding goingDown
     going-down-hands told =
         any-append (is kind target argument) (downNotices (n .handle) told) _ ∙ rw (requests-hand-none (asksFor (firstDown (n .partial)))) (or-false _)
@@ -148,21 +159,55 @@ module _ (n : Network) where
   move-tells step told EnterNoCommunication = rw (eqb-same (n .handle)) refl
   move-tells step told (Enter next) = requests-tell-nothing (asksFor next) (modeNumber told)
 
-  -- ---- shutdowns
+  -- ---- which move hands out a record with the handle
+  -- one of kinds 6 to 8, by its five places
+  module _ (kind argument : ℕ) (h : 5 < kind) (full silent passed down ended : Bool)
+      (at-full : is kind (n .handle) argument (tells (n .handle) Mode.Full) || is kind (n .handle) argument (notes (n .handle) Notice.Full) ≡ full)
+      (at-silent : is kind (n .handle) argument (tells (n .handle) Mode.Silent) || is kind (n .handle) argument (notes (n .handle) Notice.Silent) ≡ silent)
+      (at-passed : any (is kind (n .handle) argument) (reports (n .handle) Event.Passed ∷ []) ≡ passed)
+      (at-down : (told : Mode) → any (is kind (n .handle) argument) (downNotices (n .handle) told) ≡ down)
+      (at-end : any (is kind (n .handle) argument) (tells (n .handle) Mode.No ∷ []) ≡ ended) where
+    move-hands : (step : Step) (told : Mode) (m : Move) → any (is kind (n .handle) argument) (moveRecords n step told m) ≡ handsBy full silent passed down ended m
+    unfolding moveRecords enteringFull enteringSilent any
+    move-hands step told Stay = refl
+    move-hands step told AskAgain = requests-hand-none kind (n .handle) argument h (asksFor step)
+    move-hands step told Count = refl
+    move-hands step told EnterFull = entering-hands kind (n .handle) argument h PduMode.Online Mode.Full Notice.Full ∙ at-full
+    move-hands step told EnterSilent = entering-hands kind (n .handle) argument h PduMode.TxOffline Mode.Silent Notice.Silent ∙ at-silent
+    move-hands step told Pass = at-passed
+    move-hands step told Wait = pdu-hands-none kind (n .handle) argument h PduMode.TxOffline
+    move-hands step told GoDown = going-down-hands kind (n .handle) argument h told ∙ at-down told
+    move-hands step told EnterNoCommunication = at-end
+    move-hands step told (Enter next) = requests-hand-none kind (n .handle) argument h (asksFor next)
+
   notices-shut : (told : Mode) → any (is 7 (n .handle) 0) (downNotices (n .handle) told) ≡ true
   unfolding downNotices any
   notices-shut told = rw (eqb-same (n .handle)) refl
 
+  -- going down hands out no 8 passed and no 6 full
+  notices-clear-not : (told : Mode) → any (is 8 (n .handle) 0) (downNotices (n .handle) told) ≡ false
+  unfolding any downNotices
+  notices-clear-not Mode.No = refl
+  notices-clear-not Mode.Silent = refl
+  notices-clear-not Mode.Full = refl
+
+  notices-say-not : (told : Mode) → any (is 6 (n .handle) 2) (downNotices (n .handle) told) ≡ false
+  unfolding any downNotices
+  notices-say-not Mode.No = refl
+  notices-say-not Mode.Silent = refl
+  notices-say-not Mode.Full = refl
+
   -- 7 no is handed out by the move that goes down, and by no other
   pub move-shuts : (step : Step) (told : Mode) (m : Move) → any (is 7 (n .handle) 0) (moveRecords n step told m) ≡ isGoDown m
-  unfolding moveRecords enteringFull enteringSilent any
-  move-shuts step told Stay = refl
-  move-shuts step told AskAgain = requests-hand-none 7 (n .handle) 0 (omega arith) (asksFor step)
-  move-shuts step told Count = refl
-  move-shuts step told EnterFull = entering-hands 7 (n .handle) 0 (omega arith) PduMode.Online Mode.Full Notice.Full
-  move-shuts step told EnterSilent = entering-hands 7 (n .handle) 0 (omega arith) PduMode.TxOffline Mode.Silent Notice.Silent
-  move-shuts step told Pass = refl
-  move-shuts step told Wait = pdu-hands-none 7 (n .handle) 0 (omega arith) PduMode.TxOffline
-  move-shuts step told GoDown = going-down-hands 7 (n .handle) 0 (omega arith) told ∙ notices-shut told
-  move-shuts step told EnterNoCommunication = refl
-  move-shuts step told (Enter next) = requests-hand-none 7 (n .handle) 0 (omega arith) (asksFor next)
+  unfolding any
+  move-shuts = move-hands 7 0 (omega arith) false false false true false refl refl refl notices-shut refl
+
+  -- 8 passed is handed out by the move at the ensure time, and by no other
+  pub move-clears : (step : Step) (told : Mode) (m : Move) → any (is 8 (n .handle) 0) (moveRecords n step told m) ≡ isPass m
+  unfolding any
+  move-clears = move-hands 8 0 (omega arith) false false true false false refl refl (rw (eqb-same (n .handle)) refl) notices-clear-not refl
+
+  -- 6 full is handed out by the move that enters full, and by no other
+  pub move-says-full : (step : Step) (told : Mode) (m : Move) → any (is 6 (n .handle) 2) (moveRecords n step told m) ≡ isEnterFull m
+  unfolding any
+  move-says-full = move-hands 6 2 (omega arith) true false false false false (rw (eqb-same (n .handle)) refl) refl refl notices-say-not refl

@@ -9,9 +9,7 @@ use mathlib.Core.Bool.{Bool, true, false, cond, _&&_, and-false, false≢true, t
 use lib.Dec.{ltb, eqb}
 use Rattle.lists.specs.Lists.{any}
 use Rattle.lists.proofs.Any.{any-append-left, any-append-right}
-use Rattle.records.specs.declared.PduMode.{PduMode}
 use Rattle.records.specs.declared.Mode.{Mode}
-use Rattle.records.specs.declared.Notice.{Notice}
 use Rattle.records.specs.Records.{modeNumber}
 use Rattle.settings.specs.declared.Network.{Network}
 use Rattle.steps.specs.declared.Step.{Step}
@@ -19,10 +17,9 @@ use Rattle.steps.specs.declared.Step.the-variants.{NoCommunication, Transceiver
 use Rattle.steps.specs.declared.Outfit.{Outfit}
 use Rattle.steps.specs.declared.Move.{Move}
 use Rattle.steps.specs.declared.Move.the-variants.{Stay, AskAgain, Count, EnterFull, EnterSilent, Pass, Wait, GoDown, EnterNoCommunication, Enter}
-use Rattle.steps.specs.Steps.{asksFor}
 use Rattle.steps.specs.Decision.{decision}
 use Rattle.steps.specs.After.{stepAfter, risen}
-use Rattle.handing.specs.Handing.{enteringFull, enteringSilent, downNotices, moveRecords, recovery}
+use Rattle.handing.specs.Handing.{moveRecords, recovery}
 use Rattle.network.specs.declared.State.{State}
 use Rattle.network.specs.State.{started}
 use Rattle.network.specs.Rules.{isLong, delayOf}
@@ -33,7 +30,7 @@ use Rattle.network_demands.specs.Words.{is, since, never, tally, isBusOf
 use Rattle.network_demands.specs.Own.{Part, partOf, stateOf, Ran, Fit, recoveredPart, tickPart, finished, reaches, decides}
 use Rattle.network_demands.proofs.Views.{split, entry, as-ruled, Plain, plainPart, by-part}
 use Rattle.network_demands.proofs.Tests.{finished-asked, reaches-passed}
-use Rattle.network_demands.proofs.Handed.{eqb-same, isGoDown, requests-hand-none, pdu-hands-none, entering-hands, going-down-hands, move-tells, move-shuts}
+use Rattle.network_demands.proofs.Handed.{eqb-same, isGoDown, isPass, move-tells, move-shuts, move-clears}
 
 -- ---- what is said of every entry is said of the first and of the rest
 pub never-first : (p : Entry → Bool) (e : Entry) (h : History) → never p (e ∷ h) → p e ≡ false
@@ -44,39 +41,6 @@ pub never-rest : (p : Entry → Bool) (e : Entry) (h : History) → never p (e �
 never-rest p e h f = any-append-right p (e ∷ []) h f
 
 -- ---- the all-clear and the bus-off while up, in the records
-abbrev isPass : Move → Bool
-isPass Stay = false
-isPass AskAgain = false
-isPass Count = false
-isPass EnterFull = false
-isPass EnterSilent = false
-isPass Pass = true
-isPass Wait = false
-isPass GoDown = false
-isPass EnterNoCommunication = false
-isPass (Enter next) = false
-
--- going down hands out no 8 passed
-notices-clear-not : (n : Network) (told : Mode) → any (is 8 (n .handle) 0) (downNotices (n .handle) told) ≡ false
-unfolding any downNotices
-notices-clear-not n Mode.No = refl
-notices-clear-not n Mode.Silent = refl
-notices-clear-not n Mode.Full = refl
-
--- 8 passed is handed out by the move at the ensure time, and by no other
-move-clears : (n : Network) (step : Step) (told : Mode) (m : Move) → any (is 8 (n .handle) 0) (moveRecords n step told m) ≡ isPass m
-unfolding any moveRecords enteringFull enteringSilent
-move-clears n step told Stay = refl
-move-clears n step told AskAgain = requests-hand-none n 8 (n .handle) 0 (omega arith) (asksFor step)
-move-clears n step told Count = refl
-move-clears n step told EnterFull = entering-hands n 8 (n .handle) 0 (omega arith) PduMode.Online Mode.Full Notice.Full
-move-clears n step told EnterSilent = entering-hands n 8 (n .handle) 0 (omega arith) PduMode.TxOffline Mode.Silent Notice.Silent
-move-clears n step told Pass = rw (eqb-same (n .handle)) refl
-move-clears n step told Wait = pdu-hands-none n 8 (n .handle) 0 (omega arith) PduMode.TxOffline
-move-clears n step told GoDown = going-down-hands n 8 (n .handle) 0 (omega arith) told ∙ notices-clear-not n told
-move-clears n step told EnterNoCommunication = refl
-move-clears n step told (Enter next) = requests-hand-none n 8 (n .handle) 0 (omega arith) (asksFor next)
-
 -- a bus-off while up tells silent, hands out 7 bus-off, and no 8 passed
 recovery-tells : (n : Network) (mode : ℕ) → toldBy n (recovery (n .handle)) mode ≡ 1
 unfolding toldBy recovery

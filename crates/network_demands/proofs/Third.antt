@@ -9,9 +9,7 @@ use mathlib.Core.Bool.{Bool, true, false, cond, _&&_, false≢true, true≢false
 use lib.Dec.{leb, ltb, eqb}
 use lib.ListN.{take, set}
 use Rattle.lists.specs.Lists.{any, every}
-use Rattle.records.specs.declared.PduMode.{PduMode}
 use Rattle.records.specs.declared.Mode.{Mode}
-use Rattle.records.specs.declared.Notice.{Notice}
 use Rattle.records.specs.Records.{modeNumber, controllerNumber}
 use Rattle.settings.specs.declared.Network.{Network}
 use Rattle.settings.specs.Settings.{controllersOf, member}
@@ -21,11 +19,11 @@ use Rattle.steps.specs.declared.Step.the-variants.{NoCommunication, Transceiver
 use Rattle.steps.specs.declared.Ask.{Ask}
 use Rattle.steps.specs.declared.Outfit.{Outfit}
 use Rattle.steps.specs.declared.Move.{Move}
-use Rattle.steps.specs.declared.Move.the-variants.{Stay, AskAgain, Count, EnterFull, EnterSilent, Pass, Wait, GoDown, EnterNoCommunication, Enter}
+use Rattle.steps.specs.declared.Move.the-variants.{AskAgain, Count, EnterFull, Wait}
 use Rattle.steps.specs.Steps.{asksFor}
 use Rattle.steps.specs.Decision.{decision}
 use Rattle.steps.specs.After.{stepAfter, risen}
-use Rattle.handing.specs.Handing.{enteringFull, enteringSilent, downNotices, moveRecords}
+use Rattle.handing.specs.Handing.{moveRecords}
 use Rattle.network.specs.declared.Heard.{Heard}
 use Rattle.network.specs.declared.Report.{Report}
 use Rattle.network.specs.declared.State.{State}
@@ -39,7 +37,7 @@ use Rattle.network_demands.specs.Words.{is, hands, since, tally, isTick,
 use Rattle.network_demands.specs.Own.{Part, unmoved, partOf, stateOf, Fits, Ran, Fit, slotOf, tickPart, finished, decides, reaches}
 use Rattle.network_demands.proofs.Views.{split, entry, as-ruled, by-part, state-kept}
 use Rattle.network_demands.proofs.Tests.{finished-just, reaches-just}
-use Rattle.network_demands.proofs.Handed.{eqb-same, asks-each-to-start, requests-hand-none, pdu-hands-none, entering-hands, going-down-hands}
+use Rattle.network_demands.proofs.Handed.{eqb-same, asks-each-to-start, isEnterFull, move-says-full}
 use Rattle.network_demands.proofs.First.{saidOkay}
 use Rattle.network_demands.proofs.Slots.{any-member, okay-own, okay-other, all-okay}
 use Rattle.network_demands.proofs.Second.{never-first, never-rest, delay-begins, fell-up-recovers, follows, wanted-follows, told-follows}
@@ -47,40 +45,6 @@ use Rattle.network_demands.proofs.Second.{never-first, never-rest, dela
 -- settings in range are fit
 pub range-fit : (n : Network) → InRange n → Fit n
 range-fit n g = record { short = g .short .0; long = g .long .0; threshold = omega (arith, g .threshold) }
-
--- ---- full, in the records
-abbrev isEnterFull : Move → Bool
-isEnterFull Stay = false
-isEnterFull AskAgain = false
-isEnterFull Count = false
-isEnterFull EnterFull = true
-isEnterFull EnterSilent = false
-isEnterFull Pass = false
-isEnterFull Wait = false
-isEnterFull GoDown = false
-isEnterFull EnterNoCommunication = false
-isEnterFull (Enter next) = false
-
--- going down hands out no 6 full
-notices-say-not : (n : Network) (told : Mode) → any (is 6 (n .handle) 2) (downNotices (n .handle) told) ≡ false
-unfolding any downNotices
-notices-say-not n Mode.No = refl
-notices-say-not n Mode.Silent = refl
-notices-say-not n Mode.Full = refl
-
--- 6 full is handed out by the move that enters full, and by no other
-move-says-full : (n : Network) (step : Step) (told : Mode) (m : Move) → any (is 6 (n .handle) 2) (moveRecords n step told m) ≡ isEnterFull m
-unfolding any moveRecords enteringFull enteringSilent
-move-says-full n step told Stay = refl
-move-says-full n step told AskAgain = requests-hand-none n 6 (n .handle) 2 (omega arith) (asksFor step)
-move-says-full n step told Count = refl
-move-says-full n step told EnterFull = entering-hands n 6 (n .handle) 2 (omega arith) PduMode.Online Mode.Full Notice.Full ∙ rw (eqb-same (n .handle)) refl
-move-says-full n step told EnterSilent = entering-hands n 6 (n .handle) 2 (omega arith) PduMode.TxOffline Mode.Silent Notice.Silent
-move-says-full n step told Pass = refl
-move-says-full n step told Wait = pdu-hands-none n 6 (n .handle) 2 (omega arith) PduMode.TxOffline
-move-says-full n step told GoDown = going-down-hands n 6 (n .handle) 2 (omega arith) told ∙ notices-say-not n told
-move-says-full n step told EnterNoCommunication = refl
-move-says-full n step told (Enter next) = requests-hand-none n 6 (n .handle) 2 (omega arith) (asksFor next)
 
 -- ---- where the network stands since the bus-off, d being the delay, k the ticks since, and w saying which requests to start stand unanswered
 -- step 6: before the first tick nothing was asked; after it, whoever is not waited for has answered ok
