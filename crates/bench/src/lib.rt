@@ -1,6 +1,9 @@
 // Work for the manager, to be measured: the same as bench/work.c does on the same rules in C. A box around the manager plays its neighbours.
 // Each function starts a manager with a sheet, has it work for some rounds, and returns a sum of what it handed out.
 use manager::Manager;
+use records::Event;
+use records::Mode;
+use records::Record;
 
 // The lent buffer of a tick: the records of eight networks with four controllers each.
 const ROOM: usize = 144;
@@ -83,26 +86,31 @@ fn play(manager: Manager, style: u8, rounds: u64, out: &mut [u8; ROOM]) -> Playe
             let target = byte_at(out, RECORD * k + 1);
             let argument = byte_at(out, RECORD * k + 2);
             sum = mix_record(sum, kind, target, argument);
-            if kind == 1 {
+            if kind == Record::CONTROLLER_MODE {
                 if style != DEAF {
-                    let answered = manager::controller_answer(current, target, argument, 1);
+                    let answered = manager::controller_answer(
+                        current,
+                        target,
+                        argument,
+                        Manager::OK,
+                    );
                     current = answered.manager;
                 }
-            } else if kind == 2 {
+            } else if kind == Record::TRANSCEIVER_MODE {
                 let reported = manager::transceiver_mode(current, target, argument);
                 current = reported.manager;
-            } else if kind == 4 {
+            } else if kind == Record::CLEAR_WAKE {
                 let cleared = manager::clear_done(current, target);
                 current = cleared.manager;
-            } else if kind == 5 {
+            } else if kind == Record::CHECK_WAKE {
                 let checked = manager::check_done(current, target);
                 current = checked.manager;
-            } else if kind == 6 && argument == 0 {
-                let requested = manager::request(current, target, 2);
+            } else if kind == Record::COMMUNICATION && argument == Mode::NO {
+                let requested = manager::request(current, target, Mode::FULL);
                 current = requested.manager;
-            } else if kind == 8 && argument == 0 && style == RESTLESS {
+            } else if kind == Record::EVENTS && argument == Event::PASSED && style == RESTLESS {
                 if shutdown {
-                    let requested = manager::request(current, target, 0);
+                    let requested = manager::request(current, target, Mode::NO);
                     current = requested.manager;
                 } else {
                     let struck = strike(current, target, sum);
