@@ -106,7 +106,7 @@ ARGUMENTS_OF_KIND = {
 }
 
 # Steps that a network does not come to for want of something in its settings.
-TRANSCEIVER_STEPS = (Step.UP_TRANSCEIVER_NORMAL, Step.DOWN_TRANSCEIVER_STANDBY)
+TRANSCEIVER_STEPS = (Step.TRANSCEIVER_NORMAL, Step.TRANSCEIVER_STANDBY)
 PARTIAL_STEPS = model.CLEAR_STEPS + model.CHECK_STEPS
 FOREIGN_STEP = "a network of this outfit never comes to the step"
 

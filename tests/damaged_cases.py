@@ -213,7 +213,7 @@ def fill_to(trace: Trace, length: int) -> None:
 def ticks_to_the_end(length: int) -> bytes:
     """Up to full, then ticks to the very end; passed comes at the ensure time of 20,000 ticks."""
     trace = Trace(network(7, [3, 12], times=(2, 5, 20000)))
-    trace.go_to(Step.FULL_BEING_CHECKED)
+    trace.go_to(Step.CHECKING)
     fill_to(trace, length)
     return trace.recorded()
 
@@ -222,7 +222,7 @@ def lively_to_the_end(last: bytes) -> bytes:
     """Up, silent, bus-off and down, over and over, and these bytes as the very last of the longest input."""
     trace = Trace(network(200, [3], 6, times=(1, 2, 2)))
     while trace.length < LONGEST - 400:
-        for step in (Step.FULL, Step.SILENT, Step.WAITING_TX_OFFLINE, Step.NO_COMMUNICATION):
+        for step in (Step.FULL, Step.SILENT, Step.WAITING, Step.NO_COMMUNICATION):
             trace.go_to(step)
     fill_to(trace, LONGEST - len(last))
     return trace.recorded() + last

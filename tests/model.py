@@ -103,20 +103,20 @@ class Step:
     """'Each network is always in one of fifteen steps'"""
 
     NO_COMMUNICATION = 0
-    UP_TRANSCEIVER_NORMAL = 1
-    UP_CONTROLLERS_STOPPED = 2
-    UP_CONTROLLERS_STARTED = 3
-    FULL_BEING_CHECKED = 4
+    TRANSCEIVER_NORMAL = 1
+    CONTROLLERS_STOPPED = 2
+    CONTROLLERS_STARTED = 3
+    CHECKING = 4
     FULL = 5
     RESTARTING = 6
-    WAITING_TX_OFFLINE = 7
+    WAITING = 7
     SILENT = 8
-    DOWN_CLEAR_WAKE_FLAG = 9
-    DOWN_CONTROLLERS_STOPPED = 10
-    DOWN_TRANSCEIVER_STANDBY = 11
-    DOWN_CONTROLLERS_SLEEP = 12
-    DOWN_CHECK_WAKE_FLAG = 13
-    DOWN_CHECK_WAKE_FLAG_AFTER_REFUSAL = 14
+    CLEAR_WAKE = 9
+    DOWN_STOPPED = 10
+    TRANSCEIVER_STANDBY = 11
+    CONTROLLERS_SLEEP = 12
+    CHECK_WAKE = 13
+    CHECK_WAKE_AGAIN = 14
 
 
 class Outfit:
@@ -202,21 +202,21 @@ LENGTH_OF_EVENT = {
 }
 
 CONTROLLER_MODE_OF_STEP = {
-    Step.UP_CONTROLLERS_STOPPED: ControllerMode.STOPPED,
-    Step.UP_CONTROLLERS_STARTED: ControllerMode.STARTED,
+    Step.CONTROLLERS_STOPPED: ControllerMode.STOPPED,
+    Step.CONTROLLERS_STARTED: ControllerMode.STARTED,
     Step.RESTARTING: ControllerMode.STARTED,
-    Step.DOWN_CONTROLLERS_STOPPED: ControllerMode.STOPPED,
-    Step.DOWN_CONTROLLERS_SLEEP: ControllerMode.SLEEP,
+    Step.DOWN_STOPPED: ControllerMode.STOPPED,
+    Step.CONTROLLERS_SLEEP: ControllerMode.SLEEP,
 }
 
 TRANSCEIVER_MODE_OF_STEP = {
-    Step.UP_TRANSCEIVER_NORMAL: TransceiverMode.NORMAL,
-    Step.DOWN_TRANSCEIVER_STANDBY: TransceiverMode.STANDBY,
+    Step.TRANSCEIVER_NORMAL: TransceiverMode.NORMAL,
+    Step.TRANSCEIVER_STANDBY: TransceiverMode.STANDBY,
 }
 
-CLEAR_STEPS = (Step.DOWN_CLEAR_WAKE_FLAG,)
-CHECK_STEPS = (Step.DOWN_CHECK_WAKE_FLAG, Step.DOWN_CHECK_WAKE_FLAG_AFTER_REFUSAL)
-TIMED_STEPS = (Step.FULL_BEING_CHECKED, Step.WAITING_TX_OFFLINE)
+CLEAR_STEPS = (Step.CLEAR_WAKE,)
+CHECK_STEPS = (Step.CHECK_WAKE, Step.CHECK_WAKE_AGAIN)
+TIMED_STEPS = (Step.CHECKING, Step.WAITING)
 ALL_STEPS = range(15)
 ALL_OUTFITS = (Outfit.NO_TRANSCEIVER, Outfit.TRANSCEIVER, Outfit.PARTIAL_NETWORKING)
 ASKING_STEPS = (1, 2, 3, 6, 9, 10, 11, 12, 13, 14)  # '1 to 3, 6, 9 to 14'
@@ -418,8 +418,8 @@ def outfit_of(settings: Settings) -> int:
 def first_down_step(outfit: int) -> int:
     """'its first down step (9 with PN, else 10)'"""
     if outfit == Outfit.PARTIAL_NETWORKING:
-        return Step.DOWN_CLEAR_WAKE_FLAG
-    return Step.DOWN_CONTROLLERS_STOPPED
+        return Step.CLEAR_WAKE
+    return Step.DOWN_STOPPED
 
 
 def next_step_from_no_communication(wanted: int, outfit: int) -> int:
@@ -427,8 +427,8 @@ def next_step_from_no_communication(wanted: int, outfit: int) -> int:
     if wanted != Mode.FULL:
         return Step.NO_COMMUNICATION
     if outfit == Outfit.NO_TRANSCEIVER:
-        return Step.UP_CONTROLLERS_STOPPED
-    return Step.UP_TRANSCEIVER_NORMAL
+        return Step.CONTROLLERS_STOPPED
+    return Step.TRANSCEIVER_NORMAL
 
 
 def next_step_coming_up(step: int, done: bool) -> int:
@@ -436,9 +436,9 @@ def next_step_coming_up(step: int, done: bool) -> int:
     if not done:
         return step
     return {
-        Step.UP_TRANSCEIVER_NORMAL: Step.UP_CONTROLLERS_STOPPED,
-        Step.UP_CONTROLLERS_STOPPED: Step.UP_CONTROLLERS_STARTED,
-        Step.UP_CONTROLLERS_STARTED: Step.FULL_BEING_CHECKED,
+        Step.TRANSCEIVER_NORMAL: Step.CONTROLLERS_STOPPED,
+        Step.CONTROLLERS_STOPPED: Step.CONTROLLERS_STARTED,
+        Step.CONTROLLERS_STARTED: Step.CHECKING,
     }[step]
 
 
@@ -447,7 +447,7 @@ def next_step_full(step: int, wanted: int, reached: bool) -> int:
     time: 8 passed, count 0, step 5.'"""
     if wanted == Mode.SILENT:
         return Step.SILENT
-    if step == Step.FULL_BEING_CHECKED and reached:
+    if step == Step.CHECKING and reached:
         return Step.FULL
     return step
 
@@ -456,22 +456,22 @@ def next_step_waiting(wanted: int, reached: bool) -> int:
     """'7: the tick count rises by one; when it reaches L2 (count above threshold) or L1
     (otherwise), enter full or silent, as wanted.'"""
     if not reached:
-        return Step.WAITING_TX_OFFLINE
+        return Step.WAITING
     if wanted == Mode.FULL:
-        return Step.FULL_BEING_CHECKED
+        return Step.CHECKING
     return Step.SILENT
 
 
 def next_step_up(step: int, wanted: int, done: bool, reached: bool) -> int:
     """'6 done: 3 TX offline for each controller, tick count 0, step 7.' and
     '8: wanted full, enter full.'; 4, 5 and 7 have functions of their own."""
-    if step in (Step.FULL_BEING_CHECKED, Step.FULL):
+    if step in (Step.CHECKING, Step.FULL):
         return next_step_full(step, wanted, reached)
     if step == Step.RESTARTING:
-        return Step.WAITING_TX_OFFLINE if done else step
-    if step == Step.WAITING_TX_OFFLINE:
+        return Step.WAITING if done else step
+    if step == Step.WAITING:
         return next_step_waiting(wanted, reached)
-    return Step.FULL_BEING_CHECKED if wanted == Mode.FULL else step
+    return Step.CHECKING if wanted == Mode.FULL else step
 
 
 def next_step_down(step: int, done: bool, outfit: int) -> int:
@@ -479,11 +479,11 @@ def next_step_down(step: int, done: bool, outfit: int) -> int:
     The steps 9, 13 and 14 do not occur without PN; there they stay."""
     if not done:
         return step
-    if step == Step.DOWN_CONTROLLERS_STOPPED:
-        return Step.DOWN_CONTROLLERS_SLEEP
-    if step == Step.DOWN_CONTROLLERS_SLEEP and outfit == Outfit.TRANSCEIVER:
-        return Step.DOWN_TRANSCEIVER_STANDBY
-    if step in (Step.DOWN_CONTROLLERS_SLEEP, Step.DOWN_TRANSCEIVER_STANDBY):
+    if step == Step.DOWN_STOPPED:
+        return Step.CONTROLLERS_SLEEP
+    if step == Step.CONTROLLERS_SLEEP and outfit == Outfit.TRANSCEIVER:
+        return Step.TRANSCEIVER_STANDBY
+    if step in (Step.CONTROLLERS_SLEEP, Step.TRANSCEIVER_STANDBY):
         return Step.NO_COMMUNICATION
     return step
 
@@ -491,17 +491,17 @@ def next_step_down(step: int, done: bool, outfit: int) -> int:
 def next_step_down_partial(step: int, done: bool, refusal_present: bool) -> int:
     """'With PN: 9, 10, 11, 12 in turn. In 12, if some controller's last answer is a refusal, 14;
     else when done, 13. 13 to 0; 14 to 9.'"""
-    if step == Step.DOWN_CONTROLLERS_SLEEP and refusal_present:
-        return Step.DOWN_CHECK_WAKE_FLAG_AFTER_REFUSAL
+    if step == Step.CONTROLLERS_SLEEP and refusal_present:
+        return Step.CHECK_WAKE_AGAIN
     if not done:
         return step
     return {
-        Step.DOWN_CLEAR_WAKE_FLAG: Step.DOWN_CONTROLLERS_STOPPED,
-        Step.DOWN_CONTROLLERS_STOPPED: Step.DOWN_TRANSCEIVER_STANDBY,
-        Step.DOWN_TRANSCEIVER_STANDBY: Step.DOWN_CONTROLLERS_SLEEP,
-        Step.DOWN_CONTROLLERS_SLEEP: Step.DOWN_CHECK_WAKE_FLAG,
-        Step.DOWN_CHECK_WAKE_FLAG: Step.NO_COMMUNICATION,
-        Step.DOWN_CHECK_WAKE_FLAG_AFTER_REFUSAL: Step.DOWN_CLEAR_WAKE_FLAG,
+        Step.CLEAR_WAKE: Step.DOWN_STOPPED,
+        Step.DOWN_STOPPED: Step.TRANSCEIVER_STANDBY,
+        Step.TRANSCEIVER_STANDBY: Step.CONTROLLERS_SLEEP,
+        Step.CONTROLLERS_SLEEP: Step.CHECK_WAKE,
+        Step.CHECK_WAKE: Step.NO_COMMUNICATION,
+        Step.CHECK_WAKE_AGAIN: Step.CLEAR_WAKE,
     }[step]
 
 
@@ -644,9 +644,9 @@ def timer_is_reached(network: NetworkRecord) -> bool:
     'reaches L2 (count above threshold) or L1 (otherwise)'."""
     settings = network.settings
     risen = network.tick_count + 1
-    if network.step == Step.FULL_BEING_CHECKED:
+    if network.step == Step.CHECKING:
         return risen >= settings.ensure_time
-    if network.step == Step.WAITING_TX_OFFLINE:
+    if network.step == Step.WAITING:
         above_threshold = network.bus_off_count > settings.threshold
         return risen >= (settings.long_delay if above_threshold else settings.short_delay)
     return False
@@ -660,7 +660,7 @@ def enter_asking_step(network: NetworkRecord, step: int) -> List[Record]:
 
 def enter_full(network: NetworkRecord) -> List[Record]:
     """'Enter full: 3 online for each, 6 full, 7 full, tick count 0, step 4.'"""
-    set_step(network, Step.FULL_BEING_CHECKED)
+    set_step(network, Step.CHECKING)
     records = records_for_controllers(network, Kind.PDU_MODE, PduMode.ONLINE)
     records += tell_communication_manager(network, Mode.FULL)
     return records + tell_mode_manager(network, ModeManagerNotice.FULL)
@@ -683,7 +683,7 @@ def all_clear(network: NetworkRecord) -> List[Record]:
 
 def begin_waiting(network: NetworkRecord) -> List[Record]:
     """'6 done: 3 TX offline for each controller, tick count 0, step 7.'"""
-    set_step(network, Step.WAITING_TX_OFFLINE)
+    set_step(network, Step.WAITING)
     return records_for_controllers(network, Kind.PDU_MODE, PduMode.TX_OFFLINE)
 
 
@@ -705,11 +705,11 @@ def move_to(network: NetworkRecord, step: int) -> List[Record]:
     """Move the network to another step, with the effects that the way there has."""
     if step == Step.NO_COMMUNICATION:
         return enter_no_communication(network)
-    if step == Step.FULL_BEING_CHECKED:
+    if step == Step.CHECKING:
         return enter_full(network)
     if step == Step.FULL:
         return all_clear(network)
-    if step == Step.WAITING_TX_OFFLINE:
+    if step == Step.WAITING:
         return begin_waiting(network)
     if step == Step.SILENT:
         return enter_silent(network)
@@ -746,7 +746,7 @@ def tick_network(network: NetworkRecord) -> List[Record]:
 def bus_off_network(network: NetworkRecord) -> List[Record]:
     """'In 4 to 8: count up by one, staying at 255; 8 prefailed, 6 silent, 7 bus-off; step 6, not
     asked, answers forgotten. In 3: not asked, answers forgotten, nothing handed out.'"""
-    if network.step == Step.UP_CONTROLLERS_STARTED:
+    if network.step == Step.CONTROLLERS_STARTED:
         forget_answers(network)
         return []
     network.bus_off_count = min(network.bus_off_count + 1, Limit.BUS_OFF_COUNT)
@@ -758,7 +758,7 @@ def bus_off_network(network: NetworkRecord) -> List[Record]:
 
 def takes_bus_off(network: NetworkRecord) -> bool:
     """In 4 to 8 and in 3. 'Elsewhere 22.'"""
-    return network.step in UP_STEPS or network.step == Step.UP_CONTROLLERS_STARTED
+    return network.step in UP_STEPS or network.step == Step.CONTROLLERS_STARTED
 
 
 def takes_controller_answer(network: NetworkRecord, mode: int) -> bool:

@@ -8,7 +8,7 @@ from typing import Iterator, List, Tuple
 import coverage
 import model
 from model import ControllerMode, EventTag, Limit, Mode, Outfit, Step
-from traces import BENCH, FULL_STEPS, LARGEST, NOT_OK, OF_OUTFIT, OK, SHEET, TICK, WHOLE_CASE
+from traces import BENCH_NETWORK, FULL_STEPS, LARGEST, NOT_OK, OF_OUTFIT, OK, SHEET, TICK, WHOLE_CASE
 from traces import Case, Trace, answer_to, arrange, network
 
 UNKNOWN_ID = 99
@@ -21,7 +21,7 @@ UNKNOWN_ID = 99
 
 def one_bus_off() -> bytes:
     """One bus-off in step 5, full on the fourth tick."""
-    trace = Trace(BENCH)
+    trace = Trace(BENCH_NETWORK)
     trace.go_to(Step.FULL)
     trace.bus_off()
     trace.replied_tick(4)
@@ -31,9 +31,9 @@ def one_bus_off() -> bytes:
 
 def second_bus_off_in_waiting() -> bytes:
     """A second bus-off in step 7, full on the seventh tick after it."""
-    trace = Trace(BENCH)
+    trace = Trace(BENCH_NETWORK)
     trace.go_to(Step.FULL)
-    trace.go_to(Step.WAITING_TX_OFFLINE)
+    trace.go_to(Step.WAITING)
     trace.bus_off()
     trace.replied_tick(6)
     trace.poll()
@@ -44,7 +44,7 @@ def second_bus_off_in_waiting() -> bytes:
 
 def started_answer_before_the_request() -> bytes:
     """A started answer between bus-off and next tick is refused, and does not count afterwards."""
-    trace = Trace(BENCH)
+    trace = Trace(BENCH_NETWORK)
     trace.go_to(Step.FULL)
     trace.bus_off()
     trace.event(EventTag.CONTROLLER_ANSWER, 3, ControllerMode.STARTED, OK)
@@ -55,7 +55,7 @@ def started_answer_before_the_request() -> bytes:
 
 def silent_in_no_communication() -> bytes:
     """Silent asked for in step 0."""
-    trace = Trace(BENCH)
+    trace = Trace(BENCH_NETWORK)
     trace.go_to(Step.NO_COMMUNICATION)
     trace.want(Mode.SILENT)
     return trace.recorded()
@@ -63,8 +63,8 @@ def silent_in_no_communication() -> bytes:
 
 def passed_on_the_third_tick() -> bytes:
     """After full is told, passed comes on the third tick."""
-    trace = Trace(BENCH)
-    trace.go_to(Step.FULL_BEING_CHECKED)
+    trace = Trace(BENCH_NETWORK)
+    trace.go_to(Step.CHECKING)
     trace.tick(3)
     return trace.recorded()
 
@@ -186,13 +186,13 @@ def call_cases() -> Iterator[Case]:
 
 def recover(trace: Trace) -> None:
     """After a bus-off: replied ticks until the network is full again."""
-    trace.go_to(Step.FULL_BEING_CHECKED)
+    trace.go_to(Step.CHECKING)
     trace.poll()
 
 
 def short_long_short() -> bytes:
     """The short delay at the threshold, the long one above it, and after passed the short one again."""
-    trace = Trace(BENCH)
+    trace = Trace(BENCH_NETWORK)
     trace.go_to(Step.FULL)
     for _ in range(2):
         trace.bus_off()
@@ -250,7 +250,7 @@ def bus_offs_in_waiting() -> bytes:
     """In step 7 at each tick count; the delay begins anew each time."""
     trace = Trace(network(7, [3], times=(3, 4, 2), threshold=2))
     for ticks in range(4):
-        trace.go_to(Step.WAITING_TX_OFFLINE)
+        trace.go_to(Step.WAITING)
         trace.tick(ticks)
         trace.bus_off()
     recover(trace)
@@ -260,7 +260,7 @@ def bus_offs_in_waiting() -> bytes:
 def bus_offs_in_coming_up() -> bytes:
     """In step 3 before and after an answer; they are not counted: the one in step 4 has the short delay."""
     trace = Trace(network(7, [3, 12]))
-    trace.go_to(Step.UP_CONTROLLERS_STARTED)
+    trace.go_to(Step.CONTROLLERS_STARTED)
     trace.bus_off()
     trace.event(EventTag.CONTROLLER_ANSWER, 3, ControllerMode.STARTED, OK)
     trace.tick()
@@ -279,12 +279,12 @@ def bus_offs_in_coming_up() -> bytes:
 
 def count_through(step: int) -> bytes:
     """The way through this step and back to full keeps the count: the second bus-off has the long delay."""
-    trace = Trace(BENCH)
+    trace = Trace(BENCH_NETWORK)
     trace.go_to(Step.FULL)
     trace.bus_off()
     recover(trace)
     trace.go_to(step)
-    trace.go_to(Step.FULL_BEING_CHECKED)
+    trace.go_to(Step.CHECKING)
     trace.bus_off()
     recover(trace)
     return trace.recorded()
@@ -307,8 +307,8 @@ def recovery_with_other_wishes(step: int, modes: List[int]) -> bytes:
 
 def late_started_answer() -> bytes:
     """The answer to a request from before a bus-off that comes after the next tick cannot be told apart, and is taken."""
-    trace = Trace(BENCH)
-    trace.go_to(Step.UP_CONTROLLERS_STARTED)
+    trace = Trace(BENCH_NETWORK)
+    trace.go_to(Step.CONTROLLERS_STARTED)
     late = answer_to(trace.open_requests[0])
     trace.bus_off()
     trace.event(*late)
@@ -343,7 +343,7 @@ def bus_off_cases() -> Iterator[Case]:
     yield Case("the count through a shutdown", count_through(Step.NO_COMMUNICATION))
     yield Case("the count through silent", count_through(Step.SILENT))
     yield Case("bus-off in silent, back to silent", recovery_with_other_wishes(Step.RESTARTING, []))
-    for step in (Step.RESTARTING, Step.WAITING_TX_OFFLINE):
+    for step in (Step.RESTARTING, Step.WAITING):
         yield Case(f"bus-off in silent, full wanted in step {step}", recovery_with_other_wishes(step, [Mode.FULL]))
         yield Case(f"bus-off in silent, no wanted in step {step}", recovery_with_other_wishes(step, [Mode.NO]))
     yield Case("the wish changed twice in step 7", recovery_with_other_wishes(7, [Mode.NO, Mode.SILENT]))
@@ -361,7 +361,7 @@ def last_answer_counts(first: int, second: int) -> bytes:
     trace = Trace(network(7, [3, 12], 6))
     trace.want(Mode.FULL)
     trace.tick()
-    while trace.network().step != Step.FULL_BEING_CHECKED:
+    while trace.network().step != Step.CHECKING:
         step = trace.network().step
         requests = trace.open_requests
         trace.reply()
@@ -379,7 +379,7 @@ def answers_trickle_in() -> bytes:
     trace = Trace(network(7, [9, 2, 25, 14]))
     trace.want(Mode.FULL)
     trace.tick()
-    while trace.network().step != Step.FULL_BEING_CHECKED:
+    while trace.network().step != Step.CHECKING:
         requests = trace.open_requests
         for place in (2, 0, 3, 1) if requests else ():
             trace.event(*answer_to(requests[place]))
@@ -406,7 +406,7 @@ def sleep_refused(outfit: int, place: int, times: int) -> bytes:
     """The controller at this place refuses sleep so many times, then all agree."""
     trace = Trace(OF_OUTFIT[outfit])
     for _ in range(times):
-        trace.go_to(Step.DOWN_CONTROLLERS_SLEEP)
+        trace.go_to(Step.CONTROLLERS_SLEEP)
         trace.event(*answer_to(trace.open_requests[place], NOT_OK))
         trace.tick()
         trace.poll()
@@ -418,7 +418,7 @@ def sleep_refused(outfit: int, place: int, times: int) -> bytes:
 def refusal_taken_back() -> bytes:
     """With partial networking: sleep refused, and agreed to before the tick: to step 13 and not 14."""
     trace = Trace(OF_OUTFIT[Outfit.PARTIAL_NETWORKING])
-    trace.go_to(Step.DOWN_CONTROLLERS_SLEEP)
+    trace.go_to(Step.CONTROLLERS_SLEEP)
     trace.event(*answer_to(trace.open_requests[0], NOT_OK))
     trace.replied_tick()
     trace.go_to(Step.NO_COMMUNICATION)
@@ -458,7 +458,7 @@ def answer_cases() -> Iterator[Case]:
 
 def last_request_counts() -> bytes:
     """Several requests between two ticks: only the last one counts, and none hands out anything."""
-    trace = Trace(BENCH)
+    trace = Trace(BENCH_NETWORK)
     trace.go_to(Step.NO_COMMUNICATION)
     for modes in ([2, 0], [0, 2], [0, 2], [2, 0, 2], [1, 0, 2], [2, 1], [0, 1], [1, 2], [2, 1, 0], [2, 0]):
         for mode in modes:
@@ -477,7 +477,7 @@ def full_wanted_while_going_down(outfit: int) -> bytes:
     trace.poll()
     trace.want(Mode.FULL)
     trace.want(Mode.SILENT)
-    trace.go_to(Step.FULL_BEING_CHECKED)
+    trace.go_to(Step.CHECKING)
     trace.poll()
     return trace.recorded()
 
@@ -502,7 +502,7 @@ def silent_and_back() -> bytes:
         trace.go_to(Step.SILENT)
         trace.tick(ticks)
         trace.poll()
-        trace.go_to(Step.FULL_BEING_CHECKED)
+        trace.go_to(Step.CHECKING)
         trace.tick(ticks)
         trace.poll()
     return trace.recorded()
@@ -517,11 +517,11 @@ def tick_until(trace: Trace, step: int) -> None:
 def times_above_a_byte() -> bytes:
     """Short delay 258, long delay 259 and ensure time 257: each once to its end."""
     trace = Trace(network(7, [3], times=(258, 259, 257)))
-    trace.go_to(Step.FULL_BEING_CHECKED)
+    trace.go_to(Step.CHECKING)
     for _ in range(2):
         trace.bus_off()
         trace.replied_tick(2)
-        tick_until(trace, Step.FULL_BEING_CHECKED)
+        tick_until(trace, Step.CHECKING)
     tick_until(trace, Step.FULL)
     return trace.recorded()
 
@@ -529,7 +529,7 @@ def times_above_a_byte() -> bytes:
 def longest_times() -> bytes:
     """All times 65,535: neither passed nor the end of the delay comes within 300 ticks."""
     trace = Trace(network(7, [3], times=(65535, 65535, 65535), threshold=0))
-    trace.go_to(Step.FULL_BEING_CHECKED)
+    trace.go_to(Step.CHECKING)
     trace.tick(300)
     trace.bus_off()
     trace.replied_tick(300)

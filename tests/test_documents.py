@@ -18,7 +18,7 @@ How each is tried:
 
     form        a command with a word in capitals or in square brackets: its program has to exist
     toolchain   rt: its first word has to be one that the toolchain has
-    long        ./test, tests/differential, bench/*, the unit tests themselves, git, and the pictures that dot lays out, which differ from
+    long        ./test, tests/differential, speed/*, the unit tests themselves, git, and the pictures that dot lays out, which differ from
                 one version of it to the next: they have to exist and be executable
     built       with ./cantrace in it: as long; run too, as cheap, where a built program is there that is newer than its sources
     cheap       every other: run in a copy of the repository, has to end with exit status 0 and to leave each file of it as it was
@@ -65,8 +65,8 @@ REQUIREMENTS = """
 EDIT_FILES = "*/must-fail/*.edit"
 CRATE_FOLDERS = ("src/", "specs/", "proofs/", "must-fail/")
 RT_COMMANDS = ("check", "prove", "dev", "staticlib", "try", "must-fail", "ci", "goals", "mir", "fmt", "doc", "version", "selftest", "help")
-LONG_COMMANDS = ("./test", "tests/differential", "git ", "bench/", "tools/draw steps", "tools/draw crates")
-COMMAND_STARTS = ("./", "rt ", "python3 ", "sed ", "tests/", "tools/", "bench/", "git ", "printf ", "cat ", "xxd ", "cmp ", "diff ", "bash ")
+LONG_COMMANDS = ("./test", "tests/differential", "git ", "speed/", "tools/draw steps", "tools/draw crates")
+COMMAND_STARTS = ("./", "rt ", "python3 ", "sed ", "tests/", "tools/", "speed/", "git ", "printf ", "cat ", "xxd ", "cmp ", "diff ", "bash ")
 SECONDS_OF_A_COMMAND = 60
 
 CODE = re.compile(r"`([^`\n]+)`")
@@ -191,7 +191,7 @@ def pieces_of(text: str) -> List[str]:
 
 def has_file_named(name: str) -> bool:
     """Whether some file of the repository has this name."""
-    folders = (ROOT, *(ROOT / folder for folder in ("bench", "docs", "examples", "tests", "tools")))
+    folders = (ROOT, *(ROOT / folder for folder in ("docs", "examples", "speed", "tests", "tools")))
     return any((folder / name).exists() for folder in folders) or any(CRATES.rglob(name))
 
 
@@ -341,6 +341,7 @@ def counted() -> List[Tuple[str, int]]:
     chart = text_of(CRATES / "decisions" / "stdout").splitlines()[1:]
     examples = text_of(CRATES / "network_theorems" / "specs" / "Examples.antt")
     moves = text_of(CRATES / "network_theorems" / "proofs" / "Moves.antt")
+    calls = re.findall(r"^pub use \w+::[a-z_]+;", text_of(CRATES / "manager" / "src" / "lib.rt"), re.MULTILINE)
     return [
         (r"\b([\d,]+) crates\b", len(crates())),
         (r"\b([\d,]+) must-fail edits", len(list(CRATES.glob(EDIT_FILES)))),
@@ -351,7 +352,7 @@ def counted() -> List[Tuple[str, int]]:
         (r"\b([\d,]+) decisions", sum(len(line.split()) - 1 for line in chart)),
         (r"\b([\d,]+) computed examples", len(re.findall(r"^ +(?:∷ )?case ", examples, re.MULTILINE))),
         (r"\b([\d,]+) moves", len(re.findall(r"^  pub (?!by-move)", moves, re.MULTILINE))),
-        (r"\b([\d,]+|[a-z]+) public calls", text_of(CRATES / "manager" / "src" / "lib.rt").count("\npub use ")),
+        (r"\b([\d,]+|[a-z]+) public calls", len(calls)),
         (r"\b([\d,]+|[a-z]+) recordings as scripts", len(list((ROOT / "examples").glob("*.script")))),
         (r"000 numbers ([\d,]+) items", len(REQUIREMENTS)),
         (r"([\d,]+) of them are in scope", len(requirements_in(trace, IN_SCOPE))),
@@ -577,16 +578,16 @@ class FaultsAreFound(unittest.TestCase):
 
     def test_names(self):
         wrong = [
-            "`tickOf` in `manager/specs/Manager.antt`",
-            "`tickOf`, `noSuchName` in `manager/specs/Calls.antt`",
-            "| `tickOf` | x | `crates/manager/specs/Manager.antt` |",
+            "`handedOut` in `slots/specs/Manager.antt`",
+            "`handedOut`, `noSuchName` in `slots/specs/Calls.antt`",
+            "| `handedOut` | x | `crates/slots/specs/Manager.antt` |",
             "In `crates/manager_theorems/proofs`.\n\n| `tick-two` | x |",
             "must-fail `no_such_edit`",
             "`thisStandsNowhere`",
         ]
         for text in wrong:
             self.assertEqual(len(name_faults(TRACE, text)), 1, text)
-        right = "`tickOf` in `manager/specs/Calls.antt`; `Careful`, `Sound` (`manager_theorems/specs/Careful.antt`); must-fail `fixed_answer`"
+        right = "`handedOut` in `slots/specs/Calls.antt`; `Careful`, `Sound` (`manager_theorems/specs/Careful.antt`); must-fail `fixed_answer`"
         self.assertEqual(name_faults(TRACE, right), [])
 
     def test_requirements(self):

@@ -45,7 +45,7 @@ config 0 1
 """
 
 
-class Bench:
+class Box:
     """A started manager with one network, and a layer below that answers as it is told."""
 
     def __init__(self, sheet=BENCH_SHEET):
@@ -123,17 +123,17 @@ class Bench:
         assert self.network.step == step
 
 
-def bench_in_step(step, sheet=BENCH_SHEET):
-    """A bench brought to a step."""
-    bench = Bench(sheet)
-    bench.go_to(step)
-    return bench
+def box_in_step(step, sheet=BENCH_SHEET):
+    """A box brought to a step."""
+    box = Box(sheet)
+    box.go_to(step)
+    return box
 
 
-def replied_ticks_until_full(bench):
+def replied_ticks_until_full(box):
     """How many ticks, with all requests answered, until a tick tells full."""
     for number in range(1, 40):
-        if (Kind.COMMUNICATION_MANAGER, bench.handle, Mode.FULL) in bench.replied_tick():
+        if (Kind.COMMUNICATION_MANAGER, box.handle, Mode.FULL) in box.replied_tick():
             return number
     raise AssertionError("full was never told")
 
@@ -170,75 +170,75 @@ class WorkedExamples(unittest.TestCase):
         self.assertEqual(self.reading(BENCH_SHEET[:24] + b"\x01"), (0x37, 21, 0))
 
     def test_b9_full_on_the_fourth_and_on_the_seventh_tick(self):
-        bench = bench_in_step(5)
-        self.assertEqual(bench.bus_off().answer, 0)
-        self.assertEqual(replied_ticks_until_full(bench), 4)
-        bench = bench_in_step(7)
-        self.assertEqual(bench.bus_off().answer, 0)
-        self.assertEqual(replied_ticks_until_full(bench), 7)
+        box = box_in_step(5)
+        self.assertEqual(box.bus_off().answer, 0)
+        self.assertEqual(replied_ticks_until_full(box), 4)
+        box = box_in_step(7)
+        self.assertEqual(box.bus_off().answer, 0)
+        self.assertEqual(replied_ticks_until_full(box), 7)
 
     def test_b10_started_answer_between_bus_off_and_next_tick(self):
-        bench = bench_in_step(5)
-        bench.bus_off()
-        self.assertEqual(bench.manager.controller_answer(3, 1, 1).answer, 0x22)
+        box = box_in_step(5)
+        box.bus_off()
+        self.assertEqual(box.manager.controller_answer(3, 1, 1).answer, 0x22)
 
     def test_b11_silent_asked_for_in_step_0(self):
-        self.assertEqual(bench_in_step(0).manager.request(7, 1).answer, 0x08)
+        self.assertEqual(box_in_step(0).manager.request(7, 1).answer, 0x08)
 
     def test_b12_tick_with_8_and_with_9_bytes(self):
-        manager = Bench().manager
+        manager = Box().manager
         refused = manager.tick(8)
         self.assertEqual((refused.answer, refused.records, refused.count), (0x20, [], 0))
         accepted = manager.tick(9)
         self.assertEqual((accepted.answer, accepted.records, accepted.count), (0, [(1, 3, 0)], 1))
 
     def test_after_full_is_told_passed_comes_on_the_third_tick(self):
-        bench = bench_in_step(4)
-        self.assertEqual([bench.tick(), bench.tick(), bench.tick()], [[], [], [(8, 7, 0)]])
+        box = box_in_step(4)
+        self.assertEqual([box.tick(), box.tick(), box.tick()], [[], [], [(8, 7, 0)]])
 
 
 class OldFaults(unittest.TestCase):
     """The faults seen in older boxes must not be in the model."""
 
     def test_started_answer_from_before_a_bus_off_does_not_count(self):
-        bench = bench_in_step(3)
-        bench.bus_off()
-        self.assertEqual(bench.manager.controller_answer(3, 1, 1).answer, 0x22)
-        self.assertEqual(bench.tick(), [(1, 3, 1)])
-        self.assertEqual(bench.replied_tick(), [(3, 3, 0), (6, 7, 2), (7, 7, 2)])
+        box = box_in_step(3)
+        box.bus_off()
+        self.assertEqual(box.manager.controller_answer(3, 1, 1).answer, 0x22)
+        self.assertEqual(box.tick(), [(1, 3, 1)])
+        self.assertEqual(box.replied_tick(), [(3, 3, 0), (6, 7, 2), (7, 7, 2)])
 
     def test_long_delay_begins_above_the_threshold(self):
-        bench = bench_in_step(5)
-        bench.bus_off()
-        self.assertEqual(bench.network.bus_off_count, bench.network.settings.threshold)
-        self.assertEqual(replied_ticks_until_full(bench), 4)
+        box = box_in_step(5)
+        box.bus_off()
+        self.assertEqual(box.network.bus_off_count, box.network.settings.threshold)
+        self.assertEqual(replied_ticks_until_full(box), 4)
 
     def test_told_mode_is_not_full_while_controllers_are_being_stopped(self):
-        bench = bench_in_step(5)
-        bench.want(Mode.NO)
-        self.assertEqual(bench.manager.poll(7).mode, Mode.FULL)
-        self.assertEqual(bench.tick(), [(7, 7, 0), (6, 7, 1), (1, 3, 0)])
-        self.assertEqual(bench.manager.poll(7).mode, Mode.SILENT)
+        box = box_in_step(5)
+        box.want(Mode.NO)
+        self.assertEqual(box.manager.poll(7).mode, Mode.FULL)
+        self.assertEqual(box.tick(), [(7, 7, 0), (6, 7, 1), (1, 3, 0)])
+        self.assertEqual(box.manager.poll(7).mode, Mode.SILENT)
 
     def test_silent_and_back_keeps_the_count(self):
-        bench = bench_in_step(4)
-        bench.bus_off()
-        replied_ticks_until_full(bench)
-        bench.want(Mode.SILENT)
-        self.assertEqual(bench.tick(), [(3, 3, 1), (6, 7, 1), (7, 7, 1)])
-        bench.want(Mode.FULL)
-        self.assertEqual(bench.tick(), [(3, 3, 0), (6, 7, 2), (7, 7, 2)])
-        self.assertEqual(bench.network.bus_off_count, 1)
-        bench.bus_off()
-        self.assertEqual(replied_ticks_until_full(bench), 7)
+        box = box_in_step(4)
+        box.bus_off()
+        replied_ticks_until_full(box)
+        box.want(Mode.SILENT)
+        self.assertEqual(box.tick(), [(3, 3, 1), (6, 7, 1), (7, 7, 1)])
+        box.want(Mode.FULL)
+        self.assertEqual(box.tick(), [(3, 3, 0), (6, 7, 2), (7, 7, 2)])
+        self.assertEqual(box.network.bus_off_count, 1)
+        box.bus_off()
+        self.assertEqual(replied_ticks_until_full(box), 7)
 
     def test_passed_clears_the_count(self):
-        bench = bench_in_step(4)
-        bench.bus_off()
-        bench.tick_until(5)
-        self.assertEqual(bench.network.bus_off_count, 0)
-        bench.bus_off()
-        self.assertEqual(replied_ticks_until_full(bench), 4)
+        box = box_in_step(4)
+        box.bus_off()
+        box.tick_until(5)
+        self.assertEqual(box.network.bus_off_count, 0)
+        box.bus_off()
+        self.assertEqual(replied_ticks_until_full(box), 4)
 
 
 class Program(unittest.TestCase):
@@ -470,7 +470,7 @@ class CallsBeforeTheStart(unittest.TestCase):
         self.assertEqual(manager.start().answer, 0x01)
 
     def test_read_and_start_on_a_started_manager(self):
-        manager = Bench().manager
+        manager = Box().manager
         refused = manager.read(b"\x00\x00\x00")
         self.assertEqual((refused.answer, refused.place, refused.count), (0x0B, 0, 0))
         self.assertEqual(manager.read(PARTIAL_SHEET).answer, 0x0B)
@@ -495,18 +495,18 @@ class CallsBeforeTheStart(unittest.TestCase):
 
     def test_start_puts_each_network_in_its_first_down_step(self):
         for sheet, step in ((BENCH_SHEET, 10), (TRANSCEIVER_SHEET, 10), (PARTIAL_SHEET, 9)):
-            bench = Bench(sheet)
-            network = bench.network
+            box = Box(sheet)
+            network = box.network
             self.assertEqual((network.step, network.asked, network.bus_off_count), (step, False, 0))
             self.assertEqual((network.wanted, network.told), (Mode.NO, Mode.NO))
-            self.assertEqual(bench.manager.poll(bench.handle).mode, Mode.NO)
+            self.assertEqual(box.manager.poll(box.handle).mode, Mode.NO)
 
 
 class RefusalOrder(unittest.TestCase):
     """'The first that applies, from the top, is given.'"""
 
     def setUp(self):
-        self.manager = Bench(PARTIAL_SHEET).manager
+        self.manager = Box(PARTIAL_SHEET).manager
 
     def test_bus_off(self):
         self.assertEqual(self.manager.bus_off(99, 8).answer, 0x20)
@@ -515,7 +515,7 @@ class RefusalOrder(unittest.TestCase):
         self.assertEqual(self.manager.bus_off(1, 9).answer, 0x22)
 
     def test_bus_off_needs_9_bytes_in_step_3_too(self):
-        manager = bench_in_step(3, PARTIAL_SHEET).manager
+        manager = box_in_step(3, PARTIAL_SHEET).manager
         self.assertEqual(manager.bus_off(1, 8).answer, 0x20)
         accepted = manager.bus_off(1, 9)
         self.assertEqual((accepted.answer, accepted.records, accepted.count), (0, [], 0))
@@ -553,7 +553,7 @@ class RefusalOrder(unittest.TestCase):
         manager.read(PARTIAL_SHEET + BENCH_SHEET)
         manager.start()
         self.assertEqual(manager.tick(20).answer, 0x20)
-        self.assertEqual(manager.networks, Bench(PARTIAL_SHEET).manager.networks + Bench().manager.networks)
+        self.assertEqual(manager.networks, Box(PARTIAL_SHEET).manager.networks + Box().manager.networks)
         self.assertEqual(manager.tick(21).records, [(4, 6, 0), (1, 3, 0)])
 
     def test_program_buffer_is_room_for_any_call(self):
@@ -570,22 +570,22 @@ class StepsAndCalls(unittest.TestCase):
         11: ["transceiver 1"], 12: ["controller 2"], 13: ["check"], 14: ["check"],
     }
 
-    def asked_bench(self, step):
-        bench = bench_in_step(step, PARTIAL_SHEET)
-        if step in (6, 9) and not bench.network.asked:
-            bench.tick()
-        return bench
+    def asked_box(self, step):
+        box = box_in_step(step, PARTIAL_SHEET)
+        if step in (6, 9) and not box.network.asked:
+            box.tick()
+        return box
 
     def calls(self, step):
         """Each answer and report with its outcome in a manager of its own."""
         found = {}
         for mode in (0, 1, 2):
-            manager = self.asked_bench(step).manager
+            manager = self.asked_box(step).manager
             found[f"controller {mode}"] = manager.controller_answer(1, mode, 1).answer
-            manager = self.asked_bench(step).manager
+            manager = self.asked_box(step).manager
             found[f"transceiver {mode}"] = manager.transceiver_mode(6, mode).answer
-        found["clear"] = self.asked_bench(step).manager.clear_done(6).answer
-        found["check"] = self.asked_bench(step).manager.check_done(6).answer
+        found["clear"] = self.asked_box(step).manager.clear_done(6).answer
+        found["check"] = self.asked_box(step).manager.check_done(6).answer
         return found
 
     def test_answers_and_reports(self):
@@ -596,7 +596,7 @@ class StepsAndCalls(unittest.TestCase):
 
     def test_bus_off(self):
         for step in range(15):
-            outcome = bench_in_step(step, PARTIAL_SHEET).bus_off()
+            outcome = box_in_step(step, PARTIAL_SHEET).bus_off()
             with self.subTest(step=step):
                 if step in (4, 5, 6, 7, 8):
                     self.assertEqual(outcome.records, [(8, 9, 1), (6, 9, 1), (7, 9, 3)])
@@ -605,116 +605,116 @@ class StepsAndCalls(unittest.TestCase):
     def test_silent(self):
         for step in range(15):
             with self.subTest(step=step):
-                answer = bench_in_step(step, PARTIAL_SHEET).manager.request(9, 1).answer
+                answer = box_in_step(step, PARTIAL_SHEET).manager.request(9, 1).answer
                 self.assertEqual(answer, 0 if step in (4, 5, 6, 7, 8) else 0x08)
 
     def test_nothing_is_taken_before_it_is_asked(self):
-        self.assertEqual(Bench().manager.controller_answer(3, 0, 1).answer, 0x22)
-        self.assertEqual(Bench(PARTIAL_SHEET).manager.clear_done(6).answer, 0x22)
-        bench = bench_in_step(6, PARTIAL_SHEET)
-        self.assertEqual(bench.manager.controller_answer(1, 1, 1).answer, 0x22)
-        self.assertEqual(bench.tick(), [(1, 1, 1), (1, 2, 1)])
-        self.assertEqual(bench.manager.controller_answer(1, 1, 1).answer, 0)
+        self.assertEqual(Box().manager.controller_answer(3, 0, 1).answer, 0x22)
+        self.assertEqual(Box(PARTIAL_SHEET).manager.clear_done(6).answer, 0x22)
+        box = box_in_step(6, PARTIAL_SHEET)
+        self.assertEqual(box.manager.controller_answer(1, 1, 1).answer, 0x22)
+        self.assertEqual(box.tick(), [(1, 1, 1), (1, 2, 1)])
+        self.assertEqual(box.manager.controller_answer(1, 1, 1).answer, 0)
 
     def test_wanted_no_goes_down_from_1_to_8(self):
         for step in range(1, 9):
-            bench = bench_in_step(step, PARTIAL_SHEET)
-            bench.want(Mode.NO)
+            box = box_in_step(step, PARTIAL_SHEET)
+            box.want(Mode.NO)
             told_silent = [(6, 9, 1)] if step in (4, 5) else []
             with self.subTest(step=step):
-                self.assertEqual(bench.tick(), [(7, 9, 0)] + told_silent + [(4, 6, 0)])
-                self.assertEqual(bench.network.step, 9)
+                self.assertEqual(box.tick(), [(7, 9, 0)] + told_silent + [(4, 6, 0)])
+                self.assertEqual(box.network.step, 9)
 
     def test_the_down_steps_do_not_look_at_the_wanted_mode(self):
         for step in (9, 10, 11, 12, 13, 14):
-            bench = bench_in_step(step, PARTIAL_SHEET)
-            before = bench.tick()
-            bench.want(Mode.FULL)
+            box = box_in_step(step, PARTIAL_SHEET)
+            before = box.tick()
+            box.want(Mode.FULL)
             with self.subTest(step=step):
-                self.assertEqual(bench.tick(), before)
-                self.assertEqual(bench.network.step, step)
+                self.assertEqual(box.tick(), before)
+                self.assertEqual(box.network.step, step)
 
 
 class StepRules(unittest.TestCase):
     """Single sentences of the rules of the tick, the answers and the bus-off."""
 
     def test_later_answer_takes_the_place_of_an_earlier_one(self):
-        bench = bench_in_step(2)
-        self.assertEqual(bench.manager.controller_answer(3, 0, 1).answer, 0)
-        self.assertEqual(bench.manager.controller_answer(3, 0, 0).answer, 0)
-        self.assertEqual(bench.tick(), [(1, 3, 0)])
-        self.assertEqual(bench.manager.controller_answer(3, 0, 1).answer, 0)
-        self.assertEqual(bench.tick(), [(1, 3, 1)])
+        box = box_in_step(2)
+        self.assertEqual(box.manager.controller_answer(3, 0, 1).answer, 0)
+        self.assertEqual(box.manager.controller_answer(3, 0, 0).answer, 0)
+        self.assertEqual(box.tick(), [(1, 3, 0)])
+        self.assertEqual(box.manager.controller_answer(3, 0, 1).answer, 0)
+        self.assertEqual(box.tick(), [(1, 3, 1)])
 
     def test_sleep_refused_and_then_ok_with_partial_networking(self):
-        bench = bench_in_step(12, PARTIAL_SHEET)
+        box = box_in_step(12, PARTIAL_SHEET)
         for ok in (0, 1):
-            bench.manager.controller_answer(1, 2, ok)
-        bench.manager.controller_answer(2, 2, 1)
-        bench.tick()
-        self.assertEqual(bench.network.step, 13)
+            box.manager.controller_answer(1, 2, ok)
+        box.manager.controller_answer(2, 2, 1)
+        box.tick()
+        self.assertEqual(box.network.step, 13)
 
     def test_sleep_refused_comes_before_done(self):
-        bench = bench_in_step(12, PARTIAL_SHEET)
-        bench.manager.controller_answer(1, 2, 1)
-        bench.manager.controller_answer(2, 2, 0)
-        self.assertEqual(bench.tick(), [(5, 6, 0)])
-        self.assertEqual(bench.network.step, 14)
+        box = box_in_step(12, PARTIAL_SHEET)
+        box.manager.controller_answer(1, 2, 1)
+        box.manager.controller_answer(2, 2, 0)
+        self.assertEqual(box.tick(), [(5, 6, 0)])
+        self.assertEqual(box.network.step, 14)
 
     def test_wanted_no_on_the_tick_of_the_ensure_time(self):
-        bench = bench_in_step(4)
-        bench.tick()
-        bench.tick()
-        bench.want(Mode.NO)
-        self.assertEqual(bench.tick(), [(7, 7, 0), (6, 7, 1), (1, 3, 0)])
+        box = box_in_step(4)
+        box.tick()
+        box.tick()
+        box.want(Mode.NO)
+        self.assertEqual(box.tick(), [(7, 7, 0), (6, 7, 1), (1, 3, 0)])
 
     def test_silent_comes_before_the_ensure_time(self):
-        bench = bench_in_step(4)
-        bench.tick()
-        bench.tick()
-        bench.want(Mode.SILENT)
-        self.assertEqual(bench.tick(), [(3, 3, 1), (6, 7, 1), (7, 7, 1)])
+        box = box_in_step(4)
+        box.tick()
+        box.tick()
+        box.want(Mode.SILENT)
+        self.assertEqual(box.tick(), [(3, 3, 1), (6, 7, 1), (7, 7, 1)])
 
     def test_waiting_ends_in_silent_if_silent_is_wanted(self):
-        bench = bench_in_step(7)
-        bench.want(Mode.SILENT)
-        self.assertEqual(bench.tick(), [])
-        self.assertEqual(bench.tick(), [(3, 3, 1), (6, 7, 1), (7, 7, 1)])
-        self.assertEqual(bench.tick(), [])
+        box = box_in_step(7)
+        box.want(Mode.SILENT)
+        self.assertEqual(box.tick(), [])
+        self.assertEqual(box.tick(), [(3, 3, 1), (6, 7, 1), (7, 7, 1)])
+        self.assertEqual(box.tick(), [])
 
     def test_a_shutdown_keeps_the_bus_off_count(self):
-        bench = bench_in_step(7)
-        bench.want(Mode.NO)
-        bench.tick_until(0)
-        self.assertEqual(bench.network.bus_off_count, 1)
-        bench.want(Mode.FULL)
-        bench.tick_until(4)
-        bench.bus_off()
-        self.assertEqual(replied_ticks_until_full(bench), 7)
+        box = box_in_step(7)
+        box.want(Mode.NO)
+        box.tick_until(0)
+        self.assertEqual(box.network.bus_off_count, 1)
+        box.want(Mode.FULL)
+        box.tick_until(4)
+        box.bus_off()
+        self.assertEqual(replied_ticks_until_full(box), 7)
 
     def test_the_bus_off_count_stays_at_255(self):
-        bench = bench_in_step(5)
+        box = box_in_step(5)
         for _ in range(300):
-            bench.bus_off()
-        self.assertEqual(bench.network.bus_off_count, 255)
+            box.bus_off()
+        self.assertEqual(box.network.bus_off_count, 255)
 
     def test_a_refused_tick_counts_nowhere(self):
-        bench = bench_in_step(4)
+        box = box_in_step(4)
         for length in (9, 8, 9, 8):
-            self.assertEqual(bench.manager.tick(length).records, [])
-        self.assertEqual(bench.manager.tick(9).records, [(8, 7, 0)])
+            self.assertEqual(box.manager.tick(length).records, [])
+        self.assertEqual(box.manager.tick(9).records, [(8, 7, 0)])
 
     def test_request_hands_out_nothing_and_changes_no_step(self):
-        bench = bench_in_step(5)
-        outcome = bench.manager.request(7, 0)
+        box = box_in_step(5)
+        outcome = box.manager.request(7, 0)
         self.assertEqual((outcome.answer, outcome.records), (0, []))
-        self.assertEqual((bench.network.step, bench.manager.poll(7).mode), (5, Mode.FULL))
+        self.assertEqual((box.network.step, box.manager.poll(7).mode), (5, Mode.FULL))
 
     def test_bus_off_tells_silent_at_once(self):
-        bench = bench_in_step(5)
-        outcome = bench.bus_off()
+        box = box_in_step(5)
+        outcome = box.bus_off()
         self.assertEqual((outcome.records, outcome.count), ([(8, 7, 1), (6, 7, 1), (7, 7, 3)], 3))
-        self.assertEqual(bench.manager.poll(7).mode, Mode.SILENT)
+        self.assertEqual(box.manager.poll(7).mode, Mode.SILENT)
 
     def test_networks_tick_in_sheet_order_and_alone(self):
         manager = Manager.new()
@@ -727,11 +727,11 @@ class StepRules(unittest.TestCase):
         self.assertEqual(manager.tick(144).records, [(1, 1, 0), (1, 2, 0), (1, 3, 2)])
 
     def test_lent_bytes(self):
-        bench = Bench()
+        box = Box()
         before = b"\xee" * 9
-        refused = bench.manager.bus_off(3, 9)
+        refused = box.manager.bus_off(3, 9)
         self.assertEqual(model.lent_bytes_after(before, refused), before)
-        accepted = bench.manager.tick(9)
+        accepted = box.manager.tick(9)
         self.assertEqual(model.lent_bytes_after(before, accepted), bytes([1, 3, 0]) + b"\xee" * 6)
 
 

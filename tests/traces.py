@@ -15,8 +15,8 @@ Event = Tuple[int, ...]
 OK = 1
 NOT_OK = 0
 REQUEST_KINDS = (Kind.CONTROLLER_MODE, Kind.TRANSCEIVER_MODE, Kind.CLEAR_WAKE_FLAG, Kind.CHECK_WAKE_FLAG)
-FULL_STEPS = (Step.FULL_BEING_CHECKED, Step.FULL)
-RECOVERY_STEPS = (Step.RESTARTING, Step.WAITING_TX_OFFLINE)
+FULL_STEPS = (Step.CHECKING, Step.FULL)
+RECOVERY_STEPS = (Step.RESTARTING, Step.WAITING)
 DOWN_STEPS = (9, 10, 11, 12, 13, 14)
 MOST_TURNS_OF_A_WAY = 100
 
@@ -47,7 +47,7 @@ def network(
 
 
 # The network of document 01's whole case and of its bench cases, its sheet, and the whole case.
-BENCH = network(7, [3])
+BENCH_NETWORK = network(7, [3])
 SHEET = bytes.fromhex("01000107 02000103 040006000200050003 05000101 06000100")
 WHOLE_CASE = SHEET + bytes.fromhex(
     "160000 120003030001 160000 120003030201 160000 1000020702"
@@ -100,7 +100,7 @@ def wanted_on_the_way(step: int, target: int) -> int:
         return Mode.NO
     if target in model.COMING_UP_STEPS and step in model.UP_STEPS:
         return Mode.NO
-    if target == Step.FULL_BEING_CHECKED and step == Step.FULL:
+    if target == Step.CHECKING and step == Step.FULL:
         return Mode.NO
     return Mode.NO if target == Step.NO_COMMUNICATION else Mode.FULL
 
@@ -206,7 +206,7 @@ class Trace:
             self.bus_off(index)
             return
         self.turn_to(wanted_on_the_way(step, target), index)
-        if step == Step.DOWN_CONTROLLERS_SLEEP and target == Step.DOWN_CHECK_WAKE_FLAG_AFTER_REFUSAL:
+        if step == Step.CONTROLLERS_SLEEP and target == Step.CHECK_WAKE_AGAIN:
             self.reply(NOT_OK)
         self.replied_tick()
 

@@ -1,12 +1,6 @@
--- An id is used once in the whole sheet: of two networks that have it, or that a record names as its own, both are the same. Assumes nothing.
-use Prim.Native.Nat.{ℕ, zero, suc, _<_}
-use native.Mathlib.Omega.{arith}
-use borrow.Author.Tests.{eqb-true}
-use mathlib.Core.Path.{_≡_, refl, sym, ap, _∙_}
-use mathlib.Core.List.{List, [], _∷_, _++_}
-use mathlib.Core.Bool.{Bool, true, false, cond, _&&_, _||_, or-false, true≢false}
-use lib.Dec.{eqb}
-use lib.ListN.{length, getD}
+-- An id is used once in the whole sheet: of two networks that have it, or that a record names as its own, both are the same.
+use Rattle.lists.proofs.Basics.{ℕ, zero, suc, _<_, arith, eqb-true, _≡_, refl, sym, ap, _∙_, List, [], _∷_, _++_, Bool, true, false, cond, _&&_}
+use Rattle.lists.proofs.Basics.{_||_, or-false, true≢false, eqb, length, getD}
 use Rattle.lists.specs.Lists.{any, every}
 use Rattle.lists.proofs.Any.{any-append, every-cons, or-first, or-second, and-both}
 use Rattle.records.specs.declared.Record.{Record}
@@ -37,21 +31,24 @@ fresh-absent e (y ∷ l) x f p =
       by-test false q r = r
 
 -- a network's id is one of all
-all-member : (ids : Network → List ℕ) (ns : List Network) (j : ℕ) (d : Network) (x : ℕ) → j < length ns → member x (ids (getD ns j d)) ≡ true → member x (all ids ns) ≡ true
+all-member : (ids : Network → List ℕ) (ns : List Network) (j : ℕ) (d : Network) (x : ℕ) →
+    j < length ns → member x (ids (getD ns j d)) ≡ true → member x (all ids ns) ≡ true
 unfolding all
 all-member ids [] j d x h e = absurd (omega arith)
 all-member ids (n ∷ ns) zero d x h e = member-left x (ids n) (all ids ns) e
 all-member ids (n ∷ ns) (suc j) d x h e = member-right x (ids n) (all ids ns) (all-member ids ns j d x (omega arith) e)
 
-fresh-once : (ids : Network → List ℕ) (e : List ℕ) (ns : List Network) (i j : ℕ) (d : Network) (x : ℕ) → Fresh e (all ids ns) → i < length ns → j < length ns
-    → member x (ids (getD ns i d)) ≡ true → member x (ids (getD ns j d)) ≡ true → i ≡ j
+fresh-once : (ids : Network → List ℕ) (e : List ℕ) (ns : List Network) (i j : ℕ) (d : Network) (x : ℕ) →
+    Fresh e (all ids ns) → i < length ns → j < length ns → member x (ids (getD ns i d)) ≡ true → member x (ids (getD ns j d)) ≡ true → i ≡ j
 unfolding all
 fresh-once ids e [] i j d x f h k p q = absurd (omega arith)
 fresh-once ids e (n ∷ ns) zero zero d x f h k p q = refl
 fresh-once ids e (n ∷ ns) zero (suc j) d x f h k p q =
-    absurd (true≢false (sym (all-member ids ns j d x (omega arith) q) ∙ fresh-absent (e ++ ids n) (all ids ns) x (fresh-right e (ids n) (all ids ns) f) (member-right x e (ids n) p)))
+    absurd (true≢false (sym (all-member ids ns j d x (omega arith) q)
+    ∙ fresh-absent (e ++ ids n) (all ids ns) x (fresh-right e (ids n) (all ids ns) f) (member-right x e (ids n) p)))
 fresh-once ids e (n ∷ ns) (suc i) zero d x f h k p q =
-    absurd (true≢false (sym (all-member ids ns i d x (omega arith) p) ∙ fresh-absent (e ++ ids n) (all ids ns) x (fresh-right e (ids n) (all ids ns) f) (member-right x e (ids n) q)))
+    absurd (true≢false (sym (all-member ids ns i d x (omega arith) p)
+    ∙ fresh-absent (e ++ ids n) (all ids ns) x (fresh-right e (ids n) (all ids ns) f) (member-right x e (ids n) q)))
 fresh-once ids e (n ∷ ns) (suc i) (suc j) d x f h k p q =
     ap suc (fresh-once ids (e ++ ids n) ns i j d x (fresh-right e (ids n) (all ids ns) f) (omega arith) (omega arith) p q)
 
@@ -73,7 +70,8 @@ module _ (ns : List Network) (once : Once ns) (i j : ℕ) (d : Network) (h : i <
   has-once (Id.OfNetwork x) p q = fresh-once handlesOf [] ns i j d x (once .handles) h k (or-false _ ∙ p) (or-false _ ∙ q)
   has-once (Id.OfController x) p q = fresh-once controllersOf [] ns i j d x (once .controllers) h k p q
   has-once (Id.OfTransceiver x) p q =
-      fresh-once transceiversOf [] ns i j d x (once .transceivers) h k (sym (has-transceiver (getD ns i d .transceiver) x) ∙ p) (sym (has-transceiver (getD ns j d .transceiver) x) ∙ q)
+      fresh-once transceiversOf [] ns i j d x
+      (once .transceivers) h k (sym (has-transceiver (getD ns i d .transceiver) x) ∙ p) (sym (has-transceiver (getD ns j d .transceiver) x) ∙ q)
 
   targets-once : (b c e : Bool) (x : ℕ)
       → member x (cond b (controllersOf (getD ns i d)) (cond c (transceiversOf (getD ns i d)) (cond e (handlesOf (getD ns i d)) []))) ≡ true
@@ -87,7 +85,8 @@ module _ (ns : List Network) (once : Once ns) (i j : ℕ) (d : Network) (h : i <
   -- two networks that a record names as its own are one
   pub own-once : (r : Record) → ownRecord (getD ns i d) r ≡ true → ownRecord (getD ns j d) r ≡ true → i ≡ j
   unfolding ownRecord targetsOf
-  own-once r p q = targets-once (member (r .kind) (1 ∷ 3 ∷ [])) (member (r .kind) (2 ∷ 4 ∷ 5 ∷ [])) (member (r .kind) (6 ∷ 7 ∷ 8 ∷ [])) (r .target) p q
+  own-once r p q =
+      targets-once (member (r .kind) (1 ∷ 3 ∷ [])) (member (r .kind) (2 ∷ 4 ∷ 5 ∷ [])) (member (r .kind) (6 ∷ 7 ∷ 8 ∷ [])) (r .target) p q
 
 -- ---- keep
 module _ {A : Type 0} (p : A → Bool) where

@@ -1,11 +1,9 @@
 -- Demand 2: "Each call and each tick gives exactly the next records and the calls to neighbours that the paper and document 01 give, in that order."
--- The outcome of each call is fixed by the definitions (`manager_theorems`, Outcomes); here: two histories of the same calls are equal. Assumes nothing.
-use Prim.Native.Nat.{ℕ}
-use native.Mathlib.Omega.{arith}
-use mathlib.Core.Path.{_≡_, refl}
-use mathlib.Core.List.{List, _∷_, map}
-use Rattle.manager.specs.declared.Manager.{Manager}
-use Rattle.network_demands.specs.Calls.{Call, outcome, Entry, entryOf, History, Since, begun, goes}
+-- The outcome of each call is fixed by the definitions (`manager_theorems`, Outcomes); here: two histories of the same calls are equal.
+use Rattle.lists.proofs.Basics.{ℕ, arith, _≡_, refl, List, _∷_, map}
+use Rattle.slots.specs.declared.Manager.{Manager}
+use Rattle.slots.specs.Calls.{Call, outcome}
+use Rattle.calls.specs.Histories.{Entry, entryOf, History, Since, begun, goes}
 
 -- the calls of a history
 abbrev pub callsOf : History → List Call

@@ -1,9 +1,6 @@
 pub mod DemandOne
 pub mod DemandTwo
-pub mod Bridge
 pub mod Apart
 pub mod Parts
-pub mod Settled
 pub mod Follow
-pub mod Lift
 pub mod DemandThree

@@ -1,35 +1,45 @@
--- Demand 3 for a network of a started manager, over every history of calls since the start: "If a network is said to be full, every controller of it was
--- asked to start and answered that it runs, after the latest of the start, its last bus-off and its last shutdown; after a bus-off while up, the right
--- delay plus two ticks have passed; and under good conditions full is said on just that tick." A history has the latest call first: in s ++ (b ∷ h), s
--- follows the bus-off b, which follows h.
-use Prim.Native.Nat.{ℕ, _+_, _*_}
+-- Demand 3 for a network of a started manager, over every history of calls since the start, as the network sees it: "If a network is said to be
+-- full, every
+-- controller of it was asked to start and answered that it runs, after the latest of the start, its last bus-off and its last shutdown; after a
+-- bus-off
+-- while up, the right delay plus two ticks have passed; and under good conditions full is said on just that tick." A history has the latest call
+-- first: in
+-- s ++ (b ∷ h), s follows the bus-off b, which follows h.
+use Prim.Native.Nat.{ℕ, _+_, _*_, _≤_}
 use mathlib.Core.Path.{_≡_}
 use mathlib.Core.List.{_∷_, _++_}
+use mathlib.Core.Bool.{true}
 use lib.ListN.{length}
 use Rattle.settings.specs.declared.Network.{Network}
-use Rattle.manager.specs.declared.Answer.{Answer}
-use Rattle.manager.specs.declared.Manager.{Manager}
-use Rattle.manager.specs.Manager.{networksOf}
-use Rattle.manager.specs.Calls.{startOf}
-use Rattle.manager_theorems.specs.Careful.{allControllers, Reached}
-use Rattle.network_demands.specs.Calls.{Entry, History, Since}
-use Rattle.network_demands.specs.Words.{Answered, Delayed, OnJustThatTick, SaidFrom}
+use Rattle.slots.specs.declared.Answer.{Answer}
+use Rattle.slots.specs.declared.Manager.{Manager}
+use Rattle.slots.specs.Manager.{networksOf}
+use Rattle.slots.specs.Calls.{start, tick, outcome}
+use Rattle.calls.specs.Histories.{Entry, History, Since, Reached}
+use Rattle.manager_theorems.specs.Careful.{allControllers}
+use Rattle.network_demands.specs.Words.{ticked, Answered, Delayed, OnJustThatTick, SaidFrom}
+use Rattle.demands.specs.View.{viewOf, viewsOf}
 
 -- a manager that was just started: calls led to one with a sheet, and its start was accepted
 pub record Begun (m₀ : Manager) : Type 0 where
   pub before : Manager
   pub reached : Reached before
-  pub accepted : startOf before .answer ≡ Answer.Accepted
-  pub same : m₀ ≡ startOf before .manager
+  pub accepted : outcome before start .answer ≡ Answer.Accepted
+  pub same : m₀ ≡ outcome before start .manager
 
 -- "A tick needs 3 x (all controllers + 2 x networks) bytes"
 abbrev pub paperNeeds : Manager → ℕ
 paperNeeds m = 3 * (allControllers (networksOf m) + 2 * length (networksOf m))
 
--- the three sentences of demand 3, of one network; `said-from` is the third again, by the mode last told
+-- the three sentences of demand 3, of one network; a tick that is lent the bytes it needs is accepted; `said-from` is the third again, by the mode
+-- last told
 pub record Demand3 (m₀ : Manager) (n : Network) : Type 0 where
-  pub answered : (m : Manager) (h : History) → Since m₀ m h → Answered n h
-  pub delayed : (m : Manager) (s : History) (b : Entry) (h : History) → Since m₀ m (s ++ (b ∷ h)) → Delayed n s b h
+  pub answered : (m : Manager) (h : History) → Since m₀ m h → Answered n (viewsOf n h)
+  pub delayed : (m : Manager) (s : History) (b : Entry) (h : History) →
+      Since m₀ m (s ++ (b ∷ h)) → Delayed n (viewsOf n s) (viewOf n b) (viewsOf n h)
+  pub ticks : (m : Manager) (t : Entry) (h : History) → Since m₀ m (t ∷ h) → (room : ℕ) → t .call ≡ tick room → paperNeeds m₀ ≤ room
+      → ticked (viewOf n t) ≡ true
   pub on-just-that-tick : (m : Manager) (t : Entry) (s : History) (b : Entry) (h : History) → Since m₀ m (t ∷ (s ++ (b ∷ h)))
-      → OnJustThatTick (paperNeeds m₀) n t s b h
-  pub said-from : (m : Manager) (s : History) (b : Entry) (h : History) → Since m₀ m (s ++ (b ∷ h)) → SaidFrom n s b h
+      → OnJustThatTick n (viewOf n t) (viewsOf n s) (viewOf n b) (viewsOf n h)
+  pub said-from : (m : Manager) (s : History) (b : Entry) (h : History) → Since m₀ m (s ++ (b ∷ h))
+      → SaidFrom n (viewsOf n s) (viewOf n b) (viewsOf n h)

@@ -1,38 +1,32 @@
--- Histories of the product in which the premises of demand 3 hold, by computation on the definitions: told full after the start, after a short and after a
+-- Histories of the product in which the premises of demand 3 hold, by computation on the definitions: told full after the start, after a short and
+-- after a
 -- long delay, with two controllers, and with a transceiver and partial networking.
 use Prim.Native.Nat.{ℕ, _+_}
 use mathlib.Core.Path.{_≡_, refl}
 use mathlib.Core.List.{List, [], _∷_, _++_}
 use mathlib.Core.Bool.{Bool, true, false}
 use Rattle.settings.specs.declared.Network.{Network}
-use Rattle.records.specs.Records.{bytes}
 use Rattle.sheet.specs.Bench.{benchSheet}
-use Rattle.lists.specs.Lists.{any, every, first}
-use Rattle.fields.specs.Fields.{holds, measured, front, onto, past, rows}
-use Rattle.settings.specs.Settings.{blankNetwork, blankSettings, used, holderOf}
-use Rattle.entries.specs.Entries.{layoutOf, byteEntry, timesEntry, wholeEntry, entryOf as entryField}
-use Rattle.entries.specs.Grammar.{opensWith, opens, begun, withController, withTransceiver, withTimes, withThreshold, withPartial, onController, onTransceiver, onTimes, onThreshold, onPartial, goesOn}
-use Rattle.sheet.specs.Reading.{pushed, refusedAt, closed, afterOpening, afterMove as afterEntry, sheet, readFrom}
-use Rattle.steps.specs.Decision.{decision}
-use Rattle.handing.specs.Handing.{requests, entering, enteringFull, enteringSilent, downNotices, goingDown, moveRecords, recovery}
-use Rattle.text.specs.Text.{recordsAt}
-use Rattle.network.specs.State.{started, wants}
-use Rattle.network.specs.Rules.{isDone, delayOf, moveOf}
-use Rattle.network.specs.Moving.{afterMove, tickState, tickRecords}
-use Rattle.network.specs.Answers.{takesReport, afterAnswer, afterReport}
-use Rattle.network.specs.BusOff.{hitOf, madeAnew, afterHit, hitRecords}
-use Rattle.manager.specs.declared.Manager.{Manager}
-use Rattle.manager.specs.Manager.{networkAt, each, allRecords, shares, tickNeeds}
-use Rattle.manager.specs.Calls.{newManager, readOf, startOf, slotOf, requestAt, requestOf, pollOf, reportAt, answerAt, controllerAnswerOf, busOffOf, busOffBuffer, tickOf, tickBuffer}
-use Rattle.manager.specs.Calls.{clearDoneOf, checkDoneOf, transceiverAt, transceiverModeOf}
-use Rattle.network_demands.specs.Calls.{Call, read, start, request, busOff, answer, transceiverMode, clearDone, checkDone, tick, outcome, handedOut, Entry, entryOf, History, Since, goes, run}
+use Rattle.lists.specs.Lists.{any}
+use Rattle.handing.specs.Handing.{targetsOf, ownRecord}
+use Rattle.slots.specs.declared.Manager.{Manager}
+use Rattle.slots.specs.Manager.{networkAt}
+use Rattle.slots.specs.Calls.{Call, read, start, request, busOff, answer, transceiverMode, clearDone, checkDone, tick, newManager, outcome, run}
+use Rattle.calls.specs.Histories.{Entry, entryOf, History, Since, goes}
+use Rattle.calls.specs.Computed.{computedOutcome}
 use Rattle.network_demands.specs.Words.{since, tally, ticked, toldBy, told, fell, fellUp, shut, delayAt}
-use Rattle.demands.specs.Bench.{down, up}
+use Rattle.demands.specs.View.{keep, viewOf, viewsOf}
+use Rattle.demands.specs.BenchCases.{down, up}
 
 -- the history of a list of calls, the first call first, after a history
 unfoldable pub historyOf : Manager → List Call → History → History
 historyOf m [] h = h
 historyOf m (c ∷ cs) h = historyOf (outcome m c .manager) cs (entryOf m c ∷ h)
+
+-- with all open that it takes to compute one, and what the words of demand 3 say of it
+unfoldable computedHistory : Manager → List Call → History → History
+unfolding computedOutcome historyOf keep targetsOf ownRecord since tally toldBy told
+computedHistory m cs h = historyOf m cs h
 
 -- it is one of the calls since the start
 pub history-since : (m₀ m : Manager) (h : History) (cs : List Call) → Since m₀ m h → Since m₀ (run m cs) (historyOf m cs h)
@@ -48,6 +42,10 @@ startedBy sheet = run newManager (read sheet ∷ start ∷ [])
 abbrev lived : List ℕ → List Call → History
 lived sheet cs = historyOf (startedBy sheet) cs []
 
+-- the mode last told of the first network, after calls since the start of a manager with the sheet
+abbrev toldAfter : List ℕ → List Call → ℕ
+toldAfter sheet cs = told (networkAt (startedBy sheet) 0) (viewsOf (networkAt (startedBy sheet) 0) (lived sheet cs))
+
 -- what demand 3 speaks of, in a history that is `after` a bus-off `b` after `earlier`
 pub record Summary : Type 0 where
   pub told : ℕ
@@ -61,12 +59,12 @@ pub record Summary : Type 0 where
 abbrev summaryOf : Network → History → Entry → History → Summary
 summaryOf n after b earlier =
     record {
-      told = Rattle.network_demands.specs.Words.told n (after ++ (b ∷ earlier));
-      up-bus-off = fellUp n b;
-      further-bus-off = any (fell n) after;
-      shutdown = any (shut n) after;
-      ticks = tally ticked after;
-      due = delayAt n (b ∷ earlier) + 2;
+      told = Rattle.network_demands.specs.Words.told n (viewsOf n (after ++ (b ∷ earlier)));
+      up-bus-off = fellUp n (viewOf n b);
+      further-bus-off = any fell (viewsOf n after);
+      shutdown = any (shut n) (viewsOf n after);
+      ticks = tally ticked (viewsOf n after);
+      due = delayAt n (viewsOf n (b ∷ earlier)) + 2;
     }
 
 -- calls, a bus-off of controller 3, and calls after it
@@ -85,25 +83,26 @@ abbrev restarted : List Call
 restarted = tick 9 ∷ answer 3 1 1 ∷ tick 9 ∷ []
 
 -- ---- told full after the start
-pub full-after-the-start : told (networkAt (startedBy benchSheet) 0) (lived benchSheet (down ++ up)) ≡ 2
-unfolding any every first holds measured front onto past rows blankNetwork blankSettings used layoutOf byteEntry timesEntry wholeEntry entryField opensWith opens begun withController withTransceiver withTimes withThreshold withPartial onController onTransceiver onTimes onThreshold onPartial goesOn pushed refusedAt closed afterOpening afterEntry sheet readFrom bytes decision requests entering enteringFull enteringSilent downNotices goingDown moveRecords recovery recordsAt started wants isDone delayOf moveOf afterMove tickState tickRecords takesReport afterAnswer afterReport hitOf madeAnew afterHit hitRecords each allRecords shares tickNeeds readOf startOf slotOf requestAt requestOf pollOf reportAt answerAt controllerAnswerOf busOffOf busOffBuffer tickOf tickBuffer outcome handedOut run holderOf historyOf told toldBy since tally clearDoneOf checkDoneOf transceiverAt transceiverModeOf
+pub full-after-the-start : toldAfter benchSheet (down ++ up) ≡ 2
+unfolding computedHistory
 full-after-the-start = refl
 
 -- ---- told full on the fourth tick after a bus-off, by the short delay, and not on the third
 pub full-after-the-short-delay : summaryBy step5 (restarted ++ (tick 9 ∷ tick 9 ∷ []))
     ≡ record { told = 2; up-bus-off = true; further-bus-off = false; shutdown = false; ticks = 4; due = 4 }
-unfolding any every first holds measured front onto past rows blankNetwork blankSettings used layoutOf byteEntry timesEntry wholeEntry entryField opensWith opens begun withController withTransceiver withTimes withThreshold withPartial onController onTransceiver onTimes onThreshold onPartial goesOn pushed refusedAt closed afterOpening afterEntry sheet readFrom bytes decision requests entering enteringFull enteringSilent downNotices goingDown moveRecords recovery recordsAt started wants isDone delayOf moveOf afterMove tickState tickRecords takesReport afterAnswer afterReport hitOf madeAnew afterHit hitRecords each allRecords shares tickNeeds readOf startOf slotOf requestAt requestOf pollOf reportAt answerAt controllerAnswerOf busOffOf busOffBuffer tickOf tickBuffer outcome handedOut run holderOf historyOf told toldBy since tally clearDoneOf checkDoneOf transceiverAt transceiverModeOf
+unfolding computedHistory
 full-after-the-short-delay = refl
 
 -- on the third tick after the bus-off silent is still told, where full is due on the fourth
-pub not-full-before : summaryBy step5 (restarted ++ (tick 9 ∷ [])) ≡ record { told = 1; up-bus-off = true; further-bus-off = false; shutdown = false; ticks = 3; due = 4 }
-unfolding any every first holds measured front onto past rows blankNetwork blankSettings used layoutOf byteEntry timesEntry wholeEntry entryField opensWith opens begun withController withTransceiver withTimes withThreshold withPartial onController onTransceiver onTimes onThreshold onPartial goesOn pushed refusedAt closed afterOpening afterEntry sheet readFrom bytes decision requests entering enteringFull enteringSilent downNotices goingDown moveRecords recovery recordsAt started wants isDone delayOf moveOf afterMove tickState tickRecords takesReport afterAnswer afterReport hitOf madeAnew afterHit hitRecords each allRecords shares tickNeeds readOf startOf slotOf requestAt requestOf pollOf reportAt answerAt controllerAnswerOf busOffOf busOffBuffer tickOf tickBuffer outcome handedOut run holderOf historyOf told toldBy since tally clearDoneOf checkDoneOf transceiverAt transceiverModeOf
+pub not-full-before : summaryBy step5 (restarted ++ (tick 9 ∷ []))
+    ≡ record { told = 1; up-bus-off = true; further-bus-off = false; shutdown = false; ticks = 3; due = 4 }
+unfolding computedHistory
 not-full-before = refl
 
 -- ---- told full on the seventh tick after a second one, by the long delay
 pub full-after-the-long-delay : summaryBy (step5 ++ (busOff 3 9 ∷ restarted)) (restarted ++ (tick 9 ∷ tick 9 ∷ tick 9 ∷ tick 9 ∷ tick 9 ∷ []))
     ≡ record { told = 2; up-bus-off = true; further-bus-off = false; shutdown = false; ticks = 7; due = 7 }
-unfolding any every first holds measured front onto past rows blankNetwork blankSettings used layoutOf byteEntry timesEntry wholeEntry entryField opensWith opens begun withController withTransceiver withTimes withThreshold withPartial onController onTransceiver onTimes onThreshold onPartial goesOn pushed refusedAt closed afterOpening afterEntry sheet readFrom bytes decision requests entering enteringFull enteringSilent downNotices goingDown moveRecords recovery recordsAt started wants isDone delayOf moveOf afterMove tickState tickRecords takesReport afterAnswer afterReport hitOf madeAnew afterHit hitRecords each allRecords shares tickNeeds readOf startOf slotOf requestAt requestOf pollOf reportAt answerAt controllerAnswerOf busOffOf busOffBuffer tickOf tickBuffer outcome handedOut run holderOf historyOf told toldBy since tally clearDoneOf checkDoneOf transceiverAt transceiverModeOf
+unfolding computedHistory
 full-after-the-long-delay = refl
 
 -- ---- two controllers, a transceiver and partial networking: handle 9, controllers 1 and 2, transceiver 4
@@ -124,10 +123,10 @@ both mode = answer 1 mode 1 ∷ answer 2 mode 1 ∷ []
 -- down by steps 9, 10, 11, 12, 13 to 0; full is wanted; up by steps 1, 2, 3 to 4. A tick here needs 3 x (2 + 2 x 1) = 12 bytes
 abbrev downAndUp : List Call
 downAndUp =
-    (tick 12 ∷ clearDone 4 ∷ tick 12 ∷ both 0) ++ (tick 12 ∷ transceiverMode 4 1 ∷ tick 12 ∷ both 2) ++ (tick 12 ∷ checkDone 4 ∷ tick 12 ∷ request 9 2 ∷ [])
-    ++ (tick 12 ∷ transceiverMode 4 0 ∷ tick 12 ∷ both 0) ++ (tick 12 ∷ both 1) ++ (tick 12 ∷ [])
+    (tick 12 ∷ clearDone 4 ∷ tick 12 ∷ both 0) ++ (tick 12 ∷ transceiverMode 4 1 ∷ tick 12 ∷ both 2) ++ (tick
+    12 ∷ checkDone 4 ∷ tick 12 ∷ request 9 2 ∷ []) ++ (tick 12 ∷ transceiverMode 4 0 ∷ tick 12 ∷ both 0) ++ (tick 12 ∷ both 1) ++ (tick 12 ∷ [])
 
 -- with partial networking: full is told at the end of these calls
-pub full-with-partial-networking : told (networkAt (startedBy partialSheet) 0) (lived partialSheet downAndUp) ≡ 2
-unfolding any every first holds measured front onto past rows blankNetwork blankSettings used layoutOf byteEntry timesEntry wholeEntry entryField opensWith opens begun withController withTransceiver withTimes withThreshold withPartial onController onTransceiver onTimes onThreshold onPartial goesOn pushed refusedAt closed afterOpening afterEntry sheet readFrom bytes decision requests entering enteringFull enteringSilent downNotices goingDown moveRecords recovery recordsAt started wants isDone delayOf moveOf afterMove tickState tickRecords takesReport afterAnswer afterReport hitOf madeAnew afterHit hitRecords each allRecords shares tickNeeds readOf startOf slotOf requestAt requestOf pollOf reportAt answerAt controllerAnswerOf busOffOf busOffBuffer tickOf tickBuffer outcome handedOut run holderOf historyOf told toldBy since tally clearDoneOf checkDoneOf transceiverAt transceiverModeOf
+pub full-with-partial-networking : toldAfter partialSheet downAndUp ≡ 2
+unfolding computedHistory
 full-with-partial-networking = refl

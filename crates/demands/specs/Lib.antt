@@ -1,6 +1,5 @@
-pub mod Answers
 pub mod View
-pub mod Bench
+pub mod BenchCases
 pub mod Demands
 pub mod WrongBoxes
 pub mod Histories

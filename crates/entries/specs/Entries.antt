@@ -5,11 +5,10 @@ use mathlib.Core.List.{List}
 use mathlib.Core.Bool.{Bool, cond}
 use lib.Dec.{eqb, ltb}
 use lib.ListN.{length, getD}
-use Rattle.fields.specs.declared.Field.{Field}
-use Rattle.fields.specs.declared.Field.the-variants.{Stub, Overrun, Whole}
 use Rattle.fields.specs.Fields.{Row, stop, stub, overrun, field}
 use Rattle.entries.specs.declared.Fault.{Fault}
-use Rattle.entries.specs.declared.Fault.the-variants.{Cut, UnknownTag, WrongLength, OutOfOrder, OutOfRange, UsedBefore, TooMany, NoTransceiver, Empty}
+use Rattle.entries.specs.declared.Fault.the-variants.{Cut, UnknownTag, WrongLength, OutOfOrder, OutOfRange, UsedBefore, TooMany, NoTransceiver}
+use Rattle.entries.specs.declared.Fault.the-variants.{Empty}
 use Rattle.entries.specs.declared.Entry.{Entry}
 use Rattle.entries.specs.declared.Entry.the-variants.{End, Bad}
 use Rattle.entries.specs.declared.Layout.{Layout}
@@ -60,8 +59,8 @@ wholeEntry Byte tag v = byteEntry tag (getD v 0 0)
 wholeEntry Layout.Times tag v = timesEntry v
 
 -- a whole field by its tag and its value, whose length is held against the tag: "unknown tag (31); length not that of the tag (32)"
-unfoldable pub entryOf : ℕ → List ℕ → Entry
-entryOf tag v = wholeEntry (layoutOf tag (length v)) tag v
+unfoldable pub fieldEntry : ℕ → List ℕ → Entry
+fieldEntry tag v = wholeEntry (layoutOf tag (length v)) tag v
 
 -- a field whose value is cut
 abbrev pub overrunFault : Layout → Fault
@@ -75,11 +74,4 @@ unfoldable pub entryAt : Row → Entry
 entryAt (stop at) = End
 entryAt (stub at tag) = Bad Cut
 entryAt (overrun at tag n) = Bad (overrunFault (layoutOf tag n))
-entryAt (field at tag v rest) = entryOf tag v
-
--- the place after a field
-abbrev pub nextOf : Field → ℕ → ℕ
-nextOf Field.End at = at
-nextOf (Stub tag) at = at
-nextOf (Overrun tag n) at = at
-nextOf (Whole tag n next) at = next
+entryAt (field at tag v rest) = fieldEntry tag v

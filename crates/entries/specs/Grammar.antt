@@ -15,13 +15,13 @@ use Rattle.entries.specs.declared.Fault.{Fault}
 use Rattle.entries.specs.declared.Fault.the-variants.{Cut, OutOfOrder, OutOfRange, UsedBefore, TooMany, NoTransceiver}
 use Rattle.entries.specs.declared.Entry.{Entry}
 use Rattle.entries.specs.declared.Entry.the-variants.{End, Bad}
-use Rattle.entries.specs.declared.Phase.{Phase}
-use Rattle.entries.specs.declared.Phase.the-variants.{Named, Listed, Fitted, Timed, Limited}
+use Rattle.entries.specs.declared.Progress.{Progress}
+use Rattle.entries.specs.declared.Progress.the-variants.{Named, Listed, Fitted, Timed, Limited}
 use Rattle.entries.specs.declared.Opening.{Opening}
 use Rattle.entries.specs.declared.Opening.the-variants.{Closes, Begins, Refuses}
-use Rattle.entries.specs.declared.Move.{Move}
-use Rattle.entries.specs.declared.Move.the-variants.{More, Whole}
-use Rattle.entries.specs.declared.Moved.{Moved}
+use Rattle.entries.specs.declared.Filling.{Filling}
+use Rattle.entries.specs.declared.Filling.the-variants.{More, Whole}
+use Rattle.entries.specs.declared.Filled.{Filled}
 
 -- ---- where a network may begin: field 01, or the end
 
@@ -46,12 +46,22 @@ opens s (Entry.Partial x) = Refuses OutOfOrder
 -- a network that has its handle
 unfoldable pub begun : ℕ → Network
 begun handle =
-    record { handle = handle; controllers = replicate mostControllers 0; count = 0; transceiver = Absent; short = 0; long = 0; ensure = 0; threshold = 0; partial = false }
+    record {
+      handle = handle;
+      controllers = replicate mostControllers 0;
+      count = 0;
+      transceiver = Absent;
+      short = 0;
+      long = 0;
+      ensure = 0;
+      threshold = 0;
+      partial = false;
+    }
 
 -- ---- the order of fields: 01, then one to four 02, then 03 or none, then 04, 05 and 06
 
 -- field 02 comes after 01 or another 02; a fifth one is no fault of the order
-abbrev pub takesController : Phase → Bool
+abbrev pub takesController : Progress → Bool
 takesController Named = true
 takesController Listed = true
 takesController Fitted = false
@@ -59,7 +69,7 @@ takesController Timed = false
 takesController Limited = false
 
 -- field 03 comes after a 02, and once at most
-abbrev pub takesTransceiver : Phase → Bool
+abbrev pub takesTransceiver : Progress → Bool
 takesTransceiver Named = false
 takesTransceiver Listed = true
 takesTransceiver Fitted = false
@@ -67,7 +77,7 @@ takesTransceiver Timed = false
 takesTransceiver Limited = false
 
 -- field 04 comes after a 02 or, with a transceiver, after 03
-abbrev pub takesTimes : Phase → Bool
+abbrev pub takesTimes : Progress → Bool
 takesTimes Named = false
 takesTimes Listed = true
 takesTimes Fitted = true
@@ -75,7 +85,7 @@ takesTimes Timed = false
 takesTimes Limited = false
 
 -- field 05 comes after 04 only
-abbrev pub takesThreshold : Phase → Bool
+abbrev pub takesThreshold : Progress → Bool
 takesThreshold Named = false
 takesThreshold Listed = false
 takesThreshold Fitted = false
@@ -83,7 +93,7 @@ takesThreshold Timed = true
 takesThreshold Limited = false
 
 -- field 06 comes after 05 only, and is the last of its network
-abbrev pub takesPartial : Phase → Bool
+abbrev pub takesPartial : Progress → Bool
 takesPartial Named = false
 takesPartial Listed = false
 takesPartial Fitted = false
@@ -93,20 +103,20 @@ takesPartial Limited = true
 -- ---- each field in a network
 
 -- refused with a fault; the unfinished network is as it was before the field
-abbrev pub refused : Fault → Network → Moved
-refused fault n = record { to = Move.Refused fault; network = n }
+abbrev pub refusedFor : Fault → Network → Filled
+refusedFor fault n = record { filling = Filling.Refused fault; network = n }
 
--- the field is taken and the network is not yet whole; the phase says which field was the last
-abbrev pub more : Phase → Network → Moved
-more phase n = record { to = More phase; network = n }
+-- the field is taken and the network is not yet whole; the progress says which field was the last
+abbrev pub more : Progress → Network → Filled
+more progress n = record { filling = More progress; network = n }
 
 -- the network has all its fields; next is "a sheet or its end"
-abbrev pub whole : Network → Moved
-whole n = record { to = Whole; network = n }
+abbrev pub whole : Network → Filled
+whole n = record { filling = Whole; network = n }
 
 -- the id goes into the first unused slot, so that the slots have the order of the sheet
-unfoldable pub withController : Network → ℕ → Network
-withController n id =
+unfoldable pub addController : Network → ℕ → Network
+addController n id =
     record {
       handle = n .handle;
       controllers = set (n .controllers) (n .count) id;
@@ -120,19 +130,19 @@ withController n id =
     }
 
 -- "controller id, 0 to 31; one to four such fields"
-unfoldable pub onController : Settings → Network → Phase → ℕ → Moved
-onController s n phase id =
-    cond (takesController phase)
-    (cond (leb controllerIds id) (refused OutOfRange n)
-    (cond (used (OfController id) (networksOf s)) (refused UsedBefore n)
-    (cond (has (OfController id) n) (refused UsedBefore n)
-    (cond (leb mostControllers (n .count)) (refused TooMany n)
-    (more Listed (withController n id))))))
-    (refused OutOfOrder n)
+unfoldable pub onController : Settings → Network → Progress → ℕ → Filled
+onController s n progress id =
+    cond (takesController progress)
+    (cond (leb controllerIds id) (refusedFor OutOfRange n)
+    (cond (used (OfController id) (networksOf s)) (refusedFor UsedBefore n)
+    (cond (has (OfController id) n) (refusedFor UsedBefore n)
+    (cond (leb mostControllers (n .count)) (refusedFor TooMany n)
+    (more Listed (addController n id))))))
+    (refusedFor OutOfOrder n)
 
 -- field 03 is stored: from here on the network has a transceiver
-unfoldable pub withTransceiver : Network → ℕ → Network
-withTransceiver n id =
+unfoldable pub addTransceiver : Network → ℕ → Network
+addTransceiver n id =
     record {
       handle = n .handle;
       controllers = n .controllers;
@@ -146,17 +156,17 @@ withTransceiver n id =
     }
 
 -- "transceiver id, 0 to 7; may be absent"
-unfoldable pub onTransceiver : Settings → Network → Phase → ℕ → Moved
-onTransceiver s n phase id =
-    cond (takesTransceiver phase)
-    (cond (leb transceiverIds id) (refused OutOfRange n)
-    (cond (used (OfTransceiver id) (networksOf s)) (refused UsedBefore n)
-    (more Fitted (withTransceiver n id))))
-    (refused OutOfOrder n)
+unfoldable pub onTransceiver : Settings → Network → Progress → ℕ → Filled
+onTransceiver s n progress id =
+    cond (takesTransceiver progress)
+    (cond (leb transceiverIds id) (refusedFor OutOfRange n)
+    (cond (used (OfTransceiver id) (networksOf s)) (refusedFor UsedBefore n)
+    (more Fitted (addTransceiver n id))))
+    (refusedFor OutOfOrder n)
 
 -- field 04 is stored, in ticks; "L2 may be below L1"
-unfoldable pub withTimes : Network → ℕ → ℕ → ℕ → Network
-withTimes n short long ensure =
+unfoldable pub addTimes : Network → ℕ → ℕ → ℕ → Network
+addTimes n short long ensure =
     record {
       handle = n .handle;
       controllers = n .controllers;
@@ -170,18 +180,18 @@ withTimes n short long ensure =
     }
 
 -- "short delay L1, long delay L2, ensure time, in ticks, two bytes each, 1 to 65,535"
-unfoldable pub onTimes : Network → Phase → ℕ → ℕ → ℕ → Moved
-onTimes n phase short long ensure =
-    cond (takesTimes phase)
-    (cond (eqb short 0) (refused OutOfRange n)
-    (cond (eqb long 0) (refused OutOfRange n)
-    (cond (eqb ensure 0) (refused OutOfRange n)
-    (more Timed (withTimes n short long ensure)))))
-    (refused OutOfOrder n)
+unfoldable pub onTimes : Network → Progress → ℕ → ℕ → ℕ → Filled
+onTimes n progress short long ensure =
+    cond (takesTimes progress)
+    (cond (eqb short 0) (refusedFor OutOfRange n)
+    (cond (eqb long 0) (refusedFor OutOfRange n)
+    (cond (eqb ensure 0) (refusedFor OutOfRange n)
+    (more Timed (addTimes n short long ensure)))))
+    (refusedFor OutOfOrder n)
 
 -- field 05 is stored: a bus-off count above it brings the long delay
-unfoldable pub withThreshold : Network → ℕ → Network
-withThreshold n threshold =
+unfoldable pub addThreshold : Network → ℕ → Network
+addThreshold n threshold =
     record {
       handle = n .handle;
       controllers = n .controllers;
@@ -195,16 +205,16 @@ withThreshold n threshold =
     }
 
 -- "threshold, 0 to 254"
-unfoldable pub onThreshold : Network → Phase → ℕ → Moved
-onThreshold n phase threshold =
-    cond (takesThreshold phase)
-    (cond (leb thresholds threshold) (refused OutOfRange n)
-    (more Limited (withThreshold n threshold)))
-    (refused OutOfOrder n)
+unfoldable pub onThreshold : Network → Progress → ℕ → Filled
+onThreshold n progress threshold =
+    cond (takesThreshold progress)
+    (cond (leb thresholds threshold) (refusedFor OutOfRange n)
+    (more Limited (addThreshold n threshold)))
+    (refusedFor OutOfOrder n)
 
 -- field 06 is stored: with PN the network goes down by steps 9 to 14
-unfoldable pub withPartial : Network → Bool → Network
-withPartial n partial =
+unfoldable pub addPartial : Network → Bool → Network
+addPartial n partial =
     record {
       handle = n .handle;
       controllers = n .controllers;
@@ -223,22 +233,22 @@ present Absent = false
 present (Present id) = true
 
 -- "partial networking (PN), 0 or 1; 1 needs field 03"
-unfoldable pub onPartial : Network → Phase → ℕ → Moved
-onPartial n phase x =
-    cond (takesPartial phase)
-    (cond (eqb x 0) (whole (withPartial n false))
+unfoldable pub onPartial : Network → Progress → ℕ → Filled
+onPartial n progress x =
+    cond (takesPartial progress)
+    (cond (eqb x 0) (whole (addPartial n false))
     (cond (eqb x 1)
-    (cond (present (n .transceiver)) (whole (withPartial n true)) (refused NoTransceiver n))
-    (refused OutOfRange n)))
-    (refused OutOfOrder n)
+    (cond (present (n .transceiver)) (whole (addPartial n true)) (refusedFor NoTransceiver n))
+    (refusedFor OutOfRange n)))
+    (refusedFor OutOfOrder n)
 
 -- what an entry does to an unfinished network; "At the end .. an unfinished one 30"
-unfoldable pub goesOn : Settings → Network → Phase → Entry → Moved
-goesOn s n phase End = refused Cut n
-goesOn s n phase (Bad fault) = refused fault n
-goesOn s n phase (Entry.Handle handle) = refused OutOfOrder n
-goesOn s n phase (Entry.Controller id) = onController s n phase id
-goesOn s n phase (Entry.Transceiver id) = onTransceiver s n phase id
-goesOn s n phase (Entry.Times short long ensure) = onTimes n phase short long ensure
-goesOn s n phase (Entry.Threshold threshold) = onThreshold n phase threshold
-goesOn s n phase (Entry.Partial x) = onPartial n phase x
+unfoldable pub fills : Settings → Network → Progress → Entry → Filled
+fills s n progress End = refusedFor Cut n
+fills s n progress (Bad fault) = refusedFor fault n
+fills s n progress (Entry.Handle handle) = refusedFor OutOfOrder n
+fills s n progress (Entry.Controller id) = onController s n progress id
+fills s n progress (Entry.Transceiver id) = onTransceiver s n progress id
+fills s n progress (Entry.Times short long ensure) = onTimes n progress short long ensure
+fills s n progress (Entry.Threshold threshold) = onThreshold n progress threshold
+fills s n progress (Entry.Partial x) = onPartial n progress x

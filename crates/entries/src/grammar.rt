@@ -1,17 +1,19 @@
 // What an entry does to the settings: the tests of the order of fields, of ranges and of ids.
 use crate::Entry;
 use crate::Fault;
-use crate::Move;
-use crate::Moved;
+use crate::Filled;
+use crate::Filling;
 use crate::Opening;
-use crate::Phase;
+use crate::Progress;
 use settings::Id;
 use settings::Network;
 use settings::Settings;
 use settings::Transceiver;
 ghost use mathlib.Core.Path.{_≡_};
 ghost use Prim.Native.Nat.{_<_};
-ghost use Rattle.entries.specs.Grammar.{begun, opensWith, opens, refused, takesController, takesTransceiver, takesTimes, takesThreshold, takesPartial, withController, withTransceiver, withTimes, withThreshold, withPartial, onController, onTransceiver, onTimes, onThreshold, onPartial, present, goesOn};
+ghost use Rattle.entries.specs.Grammar.{begun, opensWith, opens, takesController, takesTransceiver, takesTimes, takesThreshold, takesPartial};
+ghost use Rattle.entries.specs.Grammar.{refusedFor, addController, addTransceiver, addTimes, addThreshold, addPartial, present};
+ghost use Rattle.entries.specs.Grammar.{onController, onTransceiver, onTimes, onThreshold, onPartial, fills};
 
 // ---- where a network may begin
 
@@ -58,80 +60,80 @@ pub fn begin_network(handle: u8) -> Network
 
 // ---- in a network: the order of fields
 
-fn takes_controller(phase: Phase) -> bool
-    ensures { λ r. ⌜ r ≡ takesController phase ⌝ }
+fn takes_controller(progress: Progress) -> bool
+    ensures { λ r. ⌜ r ≡ takesController progress ⌝ }
 {
-    match phase {
-        Phase::Named => true,
-        Phase::Listed => true,
-        Phase::Fitted => false,
-        Phase::Timed => false,
-        Phase::Limited => false,
+    match progress {
+        Progress::Named => true,
+        Progress::Listed => true,
+        Progress::Fitted => false,
+        Progress::Timed => false,
+        Progress::Limited => false,
     }
 }
 
-fn takes_transceiver(phase: Phase) -> bool
-    ensures { λ r. ⌜ r ≡ takesTransceiver phase ⌝ }
+fn takes_transceiver(progress: Progress) -> bool
+    ensures { λ r. ⌜ r ≡ takesTransceiver progress ⌝ }
 {
-    match phase {
-        Phase::Named => false,
-        Phase::Listed => true,
-        Phase::Fitted => false,
-        Phase::Timed => false,
-        Phase::Limited => false,
+    match progress {
+        Progress::Named => false,
+        Progress::Listed => true,
+        Progress::Fitted => false,
+        Progress::Timed => false,
+        Progress::Limited => false,
     }
 }
 
-fn takes_times(phase: Phase) -> bool
-    ensures { λ r. ⌜ r ≡ takesTimes phase ⌝ }
+fn takes_times(progress: Progress) -> bool
+    ensures { λ r. ⌜ r ≡ takesTimes progress ⌝ }
 {
-    match phase {
-        Phase::Named => false,
-        Phase::Listed => true,
-        Phase::Fitted => true,
-        Phase::Timed => false,
-        Phase::Limited => false,
+    match progress {
+        Progress::Named => false,
+        Progress::Listed => true,
+        Progress::Fitted => true,
+        Progress::Timed => false,
+        Progress::Limited => false,
     }
 }
 
-fn takes_threshold(phase: Phase) -> bool
-    ensures { λ r. ⌜ r ≡ takesThreshold phase ⌝ }
+fn takes_threshold(progress: Progress) -> bool
+    ensures { λ r. ⌜ r ≡ takesThreshold progress ⌝ }
 {
-    match phase {
-        Phase::Named => false,
-        Phase::Listed => false,
-        Phase::Fitted => false,
-        Phase::Timed => true,
-        Phase::Limited => false,
+    match progress {
+        Progress::Named => false,
+        Progress::Listed => false,
+        Progress::Fitted => false,
+        Progress::Timed => true,
+        Progress::Limited => false,
     }
 }
 
-fn takes_partial(phase: Phase) -> bool
-    ensures { λ r. ⌜ r ≡ takesPartial phase ⌝ }
+fn takes_partial(progress: Progress) -> bool
+    ensures { λ r. ⌜ r ≡ takesPartial progress ⌝ }
 {
-    match phase {
-        Phase::Named => false,
-        Phase::Listed => false,
-        Phase::Fitted => false,
-        Phase::Timed => false,
-        Phase::Limited => true,
+    match progress {
+        Progress::Named => false,
+        Progress::Listed => false,
+        Progress::Fitted => false,
+        Progress::Timed => false,
+        Progress::Limited => true,
     }
 }
 
 // ---- in a network: each field
 
-fn refuse(fault: Fault, network: Network) -> Moved
-    ensures { λ r. ⌜ r ≡ refused fault network ⌝ }
+fn refuse(fault: Fault, network: Network) -> Filled
+    ensures { λ r. ⌜ r ≡ refusedFor fault network ⌝ }
 {
-    Moved {
-        to: Move::Refused(fault),
+    Filled {
+        filling: Filling::Refused(fault),
         network,
     }
 }
 
-fn with_controller(network: Network, id: u8) -> Network
+fn add_controller(network: Network, id: u8) -> Network
     requires { ⌜ network .count < 4 ⌝ }
-    ensures { λ r. ⌜ r ≡ withController network id ⌝ }
+    ensures { λ r. ⌜ r ≡ addController network id ⌝ }
 {
     let count = network.count;
     let mut next = network;
@@ -140,10 +142,10 @@ fn with_controller(network: Network, id: u8) -> Network
     next
 }
 
-fn on_controller(settings: Settings, network: Network, phase: Phase, id: u8) -> Moved
-    ensures { λ r. ⌜ r ≡ onController settings network phase id ⌝ }
+fn on_controller(settings: Settings, network: Network, progress: Progress, id: u8) -> Filled
+    ensures { λ r. ⌜ r ≡ onController settings network progress id ⌝ }
 {
-    if takes_controller(phase) {
+    if takes_controller(progress) {
         if Network::CONTROLLER_IDS <= id {
             return refuse(Fault::OutOfRange, network);
         }
@@ -156,17 +158,17 @@ fn on_controller(settings: Settings, network: Network, phase: Phase, id: u8) -> 
         if Network::MOST_CONTROLLERS <= network.count as usize {
             return refuse(Fault::TooMany, network);
         }
-        let next = with_controller(network, id);
-        return Moved {
-            to: Move::More(Phase::Listed),
+        let next = add_controller(network, id);
+        return Filled {
+            filling: Filling::More(Progress::Listed),
             network: next,
         };
     }
     refuse(Fault::OutOfOrder, network)
 }
 
-fn with_transceiver(network: Network, id: u8) -> Network
-    ensures { λ r. ⌜ r ≡ withTransceiver network id ⌝ }
+fn add_transceiver(network: Network, id: u8) -> Network
+    ensures { λ r. ⌜ r ≡ addTransceiver network id ⌝ }
 {
     let controllers = network.controllers;
     Network {
@@ -182,27 +184,27 @@ fn with_transceiver(network: Network, id: u8) -> Network
     }
 }
 
-fn on_transceiver(settings: Settings, network: Network, phase: Phase, id: u8) -> Moved
-    ensures { λ r. ⌜ r ≡ onTransceiver settings network phase id ⌝ }
+fn on_transceiver(settings: Settings, network: Network, progress: Progress, id: u8) -> Filled
+    ensures { λ r. ⌜ r ≡ onTransceiver settings network progress id ⌝ }
 {
-    if takes_transceiver(phase) {
+    if takes_transceiver(progress) {
         if Network::TRANSCEIVER_IDS <= id {
             return refuse(Fault::OutOfRange, network);
         }
         if settings.uses(Id::OfTransceiver(id)) {
             return refuse(Fault::UsedBefore, network);
         }
-        let next = with_transceiver(network, id);
-        return Moved {
-            to: Move::More(Phase::Fitted),
+        let next = add_transceiver(network, id);
+        return Filled {
+            filling: Filling::More(Progress::Fitted),
             network: next,
         };
     }
     refuse(Fault::OutOfOrder, network)
 }
 
-fn with_times(network: Network, short: u16, long: u16, ensure: u16) -> Network
-    ensures { λ r. ⌜ r ≡ withTimes network short long ensure ⌝ }
+fn add_times(network: Network, short: u16, long: u16, ensure: u16) -> Network
+    ensures { λ r. ⌜ r ≡ addTimes network short long ensure ⌝ }
 {
     let mut next = network;
     next.short = short;
@@ -211,10 +213,10 @@ fn with_times(network: Network, short: u16, long: u16, ensure: u16) -> Network
     next
 }
 
-fn on_times(network: Network, phase: Phase, short: u16, long: u16, ensure: u16) -> Moved
-    ensures { λ r. ⌜ r ≡ onTimes network phase short long ensure ⌝ }
+fn on_times(network: Network, progress: Progress, short: u16, long: u16, ensure: u16) -> Filled
+    ensures { λ r. ⌜ r ≡ onTimes network progress short long ensure ⌝ }
 {
-    if takes_times(phase) {
+    if takes_times(progress) {
         if short == Network::NO_TIME {
             return refuse(Fault::OutOfRange, network);
         }
@@ -224,41 +226,41 @@ fn on_times(network: Network, phase: Phase, short: u16, long: u16, ensure: u16) 
         if ensure == Network::NO_TIME {
             return refuse(Fault::OutOfRange, network);
         }
-        let next = with_times(network, short, long, ensure);
-        return Moved {
-            to: Move::More(Phase::Timed),
+        let next = add_times(network, short, long, ensure);
+        return Filled {
+            filling: Filling::More(Progress::Timed),
             network: next,
         };
     }
     refuse(Fault::OutOfOrder, network)
 }
 
-fn with_threshold(network: Network, threshold: u8) -> Network
-    ensures { λ r. ⌜ r ≡ withThreshold network threshold ⌝ }
+fn add_threshold(network: Network, threshold: u8) -> Network
+    ensures { λ r. ⌜ r ≡ addThreshold network threshold ⌝ }
 {
     let mut next = network;
     next.threshold = threshold;
     next
 }
 
-fn on_threshold(network: Network, phase: Phase, threshold: u8) -> Moved
-    ensures { λ r. ⌜ r ≡ onThreshold network phase threshold ⌝ }
+fn on_threshold(network: Network, progress: Progress, threshold: u8) -> Filled
+    ensures { λ r. ⌜ r ≡ onThreshold network progress threshold ⌝ }
 {
-    if takes_threshold(phase) {
+    if takes_threshold(progress) {
         if Network::THRESHOLDS <= threshold {
             return refuse(Fault::OutOfRange, network);
         }
-        let next = with_threshold(network, threshold);
-        return Moved {
-            to: Move::More(Phase::Limited),
+        let next = add_threshold(network, threshold);
+        return Filled {
+            filling: Filling::More(Progress::Limited),
             network: next,
         };
     }
     refuse(Fault::OutOfOrder, network)
 }
 
-fn with_partial(network: Network, partial: bool) -> Network
-    ensures { λ r. ⌜ r ≡ withPartial network partial ⌝ }
+fn add_partial(network: Network, partial: bool) -> Network
+    ensures { λ r. ⌜ r ≡ addPartial network partial ⌝ }
 {
     let mut next = network;
     next.partial = partial;
@@ -274,14 +276,14 @@ fn is_present(transceiver: Transceiver) -> bool
     }
 }
 
-fn on_partial(network: Network, phase: Phase, value: u8) -> Moved
-    ensures { λ r. ⌜ r ≡ onPartial network phase value ⌝ }
+fn on_partial(network: Network, progress: Progress, value: u8) -> Filled
+    ensures { λ r. ⌜ r ≡ onPartial network progress value ⌝ }
 {
-    if takes_partial(phase) {
+    if takes_partial(progress) {
         if value == Entry::WITHOUT_PARTIAL {
-            let without = with_partial(network, false);
-            return Moved {
-                to: Move::Whole,
+            let without = add_partial(network, false);
+            return Filled {
+                filling: Filling::Whole,
                 network: without,
             };
         }
@@ -290,9 +292,9 @@ fn on_partial(network: Network, phase: Phase, value: u8) -> Moved
         }
         let transceiver = network.transceiver;
         if is_present(transceiver) {
-            let with = with_partial(network, true);
-            return Moved {
-                to: Move::Whole,
+            let with = add_partial(network, true);
+            return Filled {
+                filling: Filling::Whole,
                 network: with,
             };
         }
@@ -302,21 +304,26 @@ fn on_partial(network: Network, phase: Phase, value: u8) -> Moved
 }
 
 // What an entry does to an unfinished network.
-pub fn go_on(settings: Settings, network: Network, phase: Phase, entry: Entry) -> Moved
-    ensures { λ r. ⌜ r ≡ goesOn settings network phase entry ⌝ }
+pub fn fill_network(
+    settings: Settings,
+    network: Network,
+    progress: Progress,
+    entry: Entry,
+) -> Filled
+    ensures { λ r. ⌜ r ≡ fills settings network progress entry ⌝ }
 {
     match entry {
         Entry::End => refuse(Fault::Cut, network),
         Entry::Bad(fault) => refuse(fault, network),
         Entry::Handle(_) => refuse(Fault::OutOfOrder, network),
-        Entry::Controller(id) => on_controller(settings, network, phase, id),
-        Entry::Transceiver(id) => on_transceiver(settings, network, phase, id),
+        Entry::Controller(id) => on_controller(settings, network, progress, id),
+        Entry::Transceiver(id) => on_transceiver(settings, network, progress, id),
         Entry::Times {
             short,
             long,
             ensure,
-        } => on_times(network, phase, short, long, ensure),
-        Entry::Threshold(threshold) => on_threshold(network, phase, threshold),
-        Entry::Partial(value) => on_partial(network, phase, value),
+        } => on_times(network, progress, short, long, ensure),
+        Entry::Threshold(threshold) => on_threshold(network, progress, threshold),
+        Entry::Partial(value) => on_partial(network, progress, value),
     }
 }

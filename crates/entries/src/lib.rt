@@ -6,7 +6,7 @@ ghost use mathlib.Core.Path.{_≡_};
 ghost use Rattle.entries.specs.Entries.{faultNumber};
 use fields::Field;
 pub use grammar::begin_network;
-pub use grammar::go_on;
+pub use grammar::fill_network;
 pub use grammar::open_network;
 use settings::Network;
 pub use values::entry_at;
@@ -94,13 +94,13 @@ pub enum Layout {
 }
 
 // An entry, and the place after its field.
-pub struct Found {
+pub struct FoundEntry {
     pub entry: Entry,
     pub next: usize,
 }
 
-// The last field of an unfinished network.
-pub enum Phase {
+// How far an unfinished network has come, by its last field: 01, 02, 03, 04 or 05.
+pub enum Progress {
     Named,
     Listed,
     Fitted,
@@ -116,13 +116,14 @@ pub enum Opening {
 }
 
 // What an entry does to an unfinished network.
-pub enum Move {
-    More(Phase),
+pub enum Filling {
+    More(Progress),
     Whole,
     Refused(Fault),
 }
 
-pub struct Moved {
-    pub to: Move,
+// That, and the network with what the entry says.
+pub struct Filled {
+    pub filling: Filling,
     pub network: Network,
 }

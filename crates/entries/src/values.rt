@@ -1,14 +1,14 @@
 // The fields of a sheet one by one: the tests that need no settings.
 use crate::Entry;
 use crate::Fault;
-use crate::Found;
+use crate::FoundEntry;
 use crate::Layout;
 use fields::Field;
 ghost use mathlib.Core.Path.{_≡_};
 ghost use Prim.Native.Nat.{_+_, _≤_};
 ghost use lib.ListN.{length, take, drop};
-ghost use Rattle.fields.specs.Fields.{front, rowAt};
-ghost use Rattle.entries.specs.Entries.{layoutOf, byteEntry, wide, timesEntry, overrunFault, entryOf, entryAt, nextOf};
+ghost use Rattle.fields.specs.Fields.{ReadAt};
+ghost use Rattle.entries.specs.Entries.{layoutOf, byteEntry, wide, timesEntry, overrunFault, fieldEntry, entryAt};
 
 // The tag is known and the length is that of the tag.
 pub fn layout_of(tag: u8, length: u16) -> Layout
@@ -88,7 +88,7 @@ fn overrun_fault(tag: u8, length: u16) -> Fault
 // A whole field, whose value begins at a place.
 fn whole_entry(bytes: &[u8], at: usize, tag: u8, length: u16) -> Entry
     requires { ⌜ at + length ≤ lib.ListN.length (now bytes) ⌝ }
-    ensures { λ r. ⌜ r ≡ entryOf tag (take length (drop at (now (bytes .entry)))) ⌝ }
+    ensures { λ r. ⌜ r ≡ fieldEntry tag (take length (drop at (now (bytes .entry)))) ⌝ }
 {
     match layout_of(tag, length) {
         Layout::Unknown => Entry::Bad(Fault::UnknownTag),
@@ -99,28 +99,28 @@ fn whole_entry(bytes: &[u8], at: usize, tag: u8, length: u16) -> Entry
 }
 
 // What stands at a place of a sheet.
-pub fn entry_at(bytes: &[u8], at: usize) -> Found
-    ensures { λ r. ⌜ (r .entry ≡ entryAt (rowAt (now (bytes .entry)) at)) × (r .next ≡ nextOf (front at (drop at (now (bytes .entry)))) at) ⌝ }
+pub fn entry_at(bytes: &[u8], at: usize) -> FoundEntry
+    ensures { λ r. ⌜ ReadAt entryAt (now (bytes .entry)) at (r .entry) (r .next) ⌝ }
 {
     match fields::field_at(bytes, at) {
-        Field::End => Found {
+        Field::End => FoundEntry {
             entry: Entry::End,
             next: at,
         },
-        Field::Stub { tag: _ } => Found {
+        Field::Stub { tag: _ } => FoundEntry {
             entry: Entry::Bad(Fault::Cut),
             next: at,
         },
         Field::Overrun { tag, length } => {
             let fault = overrun_fault(tag, length);
-            Found {
+            FoundEntry {
                 entry: Entry::Bad(fault),
                 next: at,
             }
         }
         Field::Whole { tag, length, next } => {
             let entry = whole_entry(bytes, at + Field::HEAD, tag, length);
-            Found { entry, next }
+            FoundEntry { entry, next }
         }
     }
 }

@@ -1,18 +1,12 @@
 -- Laws of fields: a field lies within the bytes, the rest is shorter, and a row that ends well gives back the bytes it was read from.
--- Assumes nothing.
-use Prim.Native.Nat.{ℕ, zero, suc, _+_, _-_, _*_, _/_, _%_, _≤_, _<_}
-use native.Mathlib.Omega.{arith}
-use native.Mathlib.Nat.{div-add-mod'}
-use mathlib.Core.Path.{_≡_, refl, sym, ap, subst, _∙_}
-use mathlib.Core.List.{List, [], _∷_, _++_}
-use mathlib.Core.Bool.{Bool, true, false, cond}
-use lib.ListN.{length, getD, take, drop, length-drop, length-append, take-append-drop}
-use lib.Seq.{drop-drop, length-take-le, take-append-seam, drop-append-seam}
+use Rattle.lists.proofs.Basics.{ℕ, zero, suc, _+_, _-_, _*_, _/_, _%_, _≤_, _<_, arith, _≡_, sym, ap, subst, _∙_, List, [], _∷_, _++_, Bool, true}
+use Rattle.lists.proofs.Basics.{false, cond, length, getD, take, drop, length-drop, length-append, take-append-drop, drop-drop, length-take-le}
+use Rattle.lists.proofs.Basics.{take-append-seam, drop-append-seam, refl, div-add-mod'}
 use Rattle.lists.specs.Lists.{Bytes}
 use Rattle.lists.proofs.Parts.{drop-more, drop-bytes, take-bytes}
 use Rattle.fields.specs.declared.Field.{Field}
 use Rattle.fields.specs.declared.Field.the-variants.{End, Stub, Overrun, Whole}
-use Rattle.fields.specs.Fields.{holds, measured, front, Row, stop, stub, overrun, field, onto, past, rows, rowAt, fieldBytes}
+use Rattle.fields.specs.Fields.{holds, measured, front, Row, stop, stub, overrun, field, onto, past, rows, rowAt, fieldBytes, nextOf, ReadAt}
 
 -- ---- holds
 pub holds-enough : (n : ℕ) (l : List ℕ) → n ≤ length l → holds n l ≡ true
@@ -48,7 +42,8 @@ pub front-long : (s : List ℕ) (at : ℕ) → at + 3 ≤ length s
     → front at (drop at s) ≡ measured at (getD s at 0) (getD s (at + 1) 0 * 256 + getD s (at + 2) 0) (drop (at + 3) s)
 unfolding front
 front-long s at h =
-    rw (drop-more s at (at + 1) 0 (omega arith) refl, drop-more s (at + 1) (at + 2) 0 (omega arith) (omega arith), drop-more s (at + 2) (at + 3) 0 (omega arith) (omega arith)) refl
+    let e = drop-more s at (at + 1) 0 (omega arith) refl in
+    rw (e, drop-more s (at + 1) (at + 2) 0 (omega arith) (omega arith), drop-more s (at + 2) (at + 3) 0 (omega arith) (omega arith)) refl
 
 -- with the length n as the code has it
 module _ (s : List ℕ) (at n : ℕ) (e : n ≡ getD s (at + 1) 0 * 256 + getD s (at + 2) 0) where
@@ -92,7 +87,8 @@ measured-lies : (at tag high low : ℕ) (v : List ℕ) → Lies at (tag ∷ high
 unfolding measured Bytes
 measured-lies at tag high low v = by-test (holds (high * 256 + low) v) refl
   where
-    by-test : (b : Bool) → holds (high * 256 + low) v ≡ b → Lies at (tag ∷ high ∷ low ∷ v) (cond b (Whole tag (high * 256 + low) (at + 3 + (high * 256 + low))) (Overrun tag (high * 256 + low)))
+    by-test : (b : Bool) → holds (high * 256 + low) v ≡ b →
+        Lies at (tag ∷ high ∷ low ∷ v) (cond b (Whole tag (high * 256 + low) (at + 3 + (high * 256 + low))) (Overrun tag (high * 256 + low)))
     by-test true e = let h = holds-true (high * 256 + low) v e in
         (refl, omega arith, λ b. field-whole tag high low (high * 256 + low) v refl h (b .1 .1 .0))
     by-test false e = omega arith
@@ -144,8 +140,30 @@ row-further s at tag n next e =
     let r = lies at (drop at s) (Whole tag n next) e in
     let h : 3 + n ≤ length s - at = simp length-drop at (r .1) in
     let d : drop 3 (drop at s) ≡ drop (at + 3) s = drop-drop 3 at s in
-    let f : drop n (drop (at + 3) s) ≡ drop next s = drop-drop n (at + 3) s ∙ (λ i. drop (sym (r .0) i) s) in
-    (row-whole at (drop at s) tag n next e ∙ (λ i. field at tag (take n (d i)) (rows 0 next (drop n (d i)))) ∙ (λ i. field at tag (take n (drop (at + 3) s)) (rows 0 next (f i))), r .0, omega arith)
+    let f : drop n (drop (at + 3) s) ≡ drop next s = drop-drop n (at + 3) s ∙ (λ i. drop (sym (r .0) i) s) in (
+      row-whole at (drop at s) tag n next e
+          ∙ (λ i. field at tag (take n (d i)) (rows 0 next (drop n (d i)))) ∙ (λ i. field at tag (take n (drop (at + 3) s)) (rows 0 next (f i))),
+      r .0,
+      omega arith,
+    )
+
+-- the row at a place, by the field that stands there
+abbrev pub rowFrom : List ℕ → ℕ → Field → Row
+rowFrom s at End = stop at
+rowFrom s at (Stub tag) = stub at tag
+rowFrom s at (Overrun tag n) = overrun at tag n
+rowFrom s at (Whole tag n next) = field at tag (take n (drop (at + 3) s)) (rowAt s next)
+
+pub row-from : (s : List ℕ) (at : ℕ) (f : Field) → front at (drop at s) ≡ f → rowAt s at ≡ rowFrom s at f
+row-from s at End e = row-end at (drop at s) e
+row-from s at (Stub tag) e = row-stub at (drop at s) tag e
+row-from s at (Overrun tag n) e = row-overrun at (drop at s) tag n e
+row-from s at (Whole tag n next) e = row-further s at tag n next e .0
+
+-- a reader of one field, by what it gives for the field that stands there
+pub read-at : {A : Type 0} {make : Row → A} {s : List ℕ} {at : ℕ} {made : A} {next : ℕ} (f : Field) → front at (drop at s) ≡ f →
+    made ≡ make (rowFrom s at f) → next ≡ nextOf f at → ReadAt make s at made next
+read-at {A} {make} {s} {at} f e p q = record { what = p ∙ ap make (sym (row-from s at f e)); where-next = rw e q }
 
 -- ---- the row of a field that was written
 front-field : (at tag : ℕ) (v l : List ℕ) → front at (fieldBytes tag v l) ≡ Whole tag (length v) (at + 3 + length v)

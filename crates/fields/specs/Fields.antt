@@ -2,6 +2,7 @@
 -- The row of fields that bytes are serves the sheet, the events and every other input of this layout. Which tags there are, and
 -- how long their values have to be, is left to those who read the row.
 use Prim.Native.Nat.{ℕ, zero, suc, _+_, _*_, _/_, _%_}
+use mathlib.Core.Path.{_≡_}
 use mathlib.Core.List.{List, [], _∷_, _++_}
 use mathlib.Core.Bool.{Bool, true, false, cond}
 use lib.ListN.{length, take, drop}
@@ -57,6 +58,18 @@ rows zero at (b ∷ l) = onto at (front at (b ∷ l)) (drop 2 l) (rows (past (fr
 -- the row of the bytes from a place on
 abbrev pub rowAt : List ℕ → ℕ → Row
 rowAt s at = rows 0 at (drop at s)
+
+-- the place after a field
+abbrev pub nextOf : Field → ℕ → ℕ
+nextOf End at = at
+nextOf (Stub tag) at = at
+nextOf (Overrun tag n) at = at
+nextOf (Whole tag n next) at = next
+
+-- what a reader of one field gives: what it makes of the row that begins at a place, and the place after the field
+pub record ReadAt {A : Type 0} (make : Row → A) (s : List ℕ) (at : ℕ) (made : A) (next : ℕ) : Type 0 where
+  pub what : made ≡ make (rowAt s at)
+  pub where-next : next ≡ nextOf (front at (drop at s)) at
 
 -- a field as bytes: the tag, the length of its value in two bytes, the value; then what follows it
 abbrev pub fieldBytes : ℕ → List ℕ → List ℕ → List ℕ

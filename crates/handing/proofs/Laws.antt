@@ -1,12 +1,6 @@
--- What a move hands out: how many records at most, and that each names only the network's own ids. Assumes nothing.
-use Prim.Native.Nat.{ℕ, _+_, _≤_, max}
-use native.Mathlib.Omega.{arith}
-use borrow.Author.Tests.{eq-eqb}
-use mathlib.Core.Path.{_≡_, refl, _∙_}
-use mathlib.Core.List.{List, [], _∷_, _++_, map}
-use mathlib.Core.Bool.{true, or-true}
-use lib.Dec.{eqb}
-use lib.ListN.{length, length-map, length-append}
+-- What a move hands out: how many records at most, and that each names only the network's own ids.
+use Rattle.lists.proofs.Basics.{ℕ, _+_, _≤_, max, arith, eq-eqb, _≡_, refl, _∙_, List, [], _∷_, _++_, map, true, or-true, eqb, length, length-map}
+use Rattle.lists.proofs.Basics.{length-append}
 use Rattle.lists.specs.Lists.{any, every}
 use Rattle.lists.proofs.Any.{every-cons, every-append, every-weaken, every-map}
 use Rattle.records.specs.declared.Record.{Record}
@@ -26,7 +20,8 @@ use Rattle.steps.specs.Steps.{asksFor}
 use Rattle.steps.specs.After.{firstDown}
 use Rattle.handing.specs.declared.Round.{Round}
 use Rattle.handing.specs.declared.Errand.{Errand}
-use Rattle.handing.specs.Handing.{roundRecord, errandRecord, requests, entering, enteringFull, enteringSilent, downNotices, goingDown, moveRecords, recovery, targetsOf, ownRecord}
+use Rattle.handing.specs.Handing.{roundRecord, errandRecord, requests, entering, enteringFull, enteringSilent, downNotices, goingDown}
+use Rattle.handing.specs.Handing.{moveRecords, recovery, targetsOf, ownRecord}
 
 -- ---- how many
 length-errand : (errand : Errand) (t : Transceiver) → length (map (errandRecord errand) (listed t)) ≤ 1
@@ -47,7 +42,8 @@ unfolding entering
 length-entering n pdu mode notice = simp (length-append, length-map)
 
 -- so room for entering with one mode is room for entering with another
-pub room-entering : {before : List ℕ} {k : ℕ} (n : Network) (pdu pdu' : PduMode) (mode mode' : Mode) (notice notice' : Notice) → Room before k (entering n pdu mode notice) → Room before k (entering n pdu' mode' notice')
+pub room-entering : {before : List ℕ} {k : ℕ} (n : Network) (pdu pdu' : PduMode) (mode mode' : Mode) (notice notice' : Notice) →
+    Room before k (entering n pdu mode notice) → Room before k (entering n pdu' mode' notice')
 room-entering n pdu pdu' mode mode' notice notice' room =
     record { fits = omega (arith, room .fits, length-entering n pdu mode notice, length-entering n pdu' mode' notice') }
 
@@ -62,7 +58,7 @@ pub length-move : (n : Network) (step : Step) (told : Mode) (m : Move) → lengt
 unfolding moveRecords enteringFull enteringSilent goingDown
 length-move n step told Stay = omega arith
 length-move n step told AskAgain = omega (arith, length-requests (asksFor step) n)
-length-move n step told Count = omega arith
+length-move n step told (Count next) = omega arith
 length-move n step told EnterFull = omega (arith, length-entering n PduMode.Online Mode.Full Notice.Full)
 length-move n step told EnterSilent = omega (arith, length-entering n PduMode.TxOffline Mode.Silent Notice.Silent)
 length-move n step told Pass = omega arith
@@ -78,13 +74,16 @@ every-member : (l : List ℕ) → every (λ (x : ℕ). member x l) l ≡ true
 unfolding every any
 every-member [] = refl
 every-member (x ∷ l) =
-    let later = every-weaken (λ (y : ℕ). member y l) (λ (y : ℕ). member y (x ∷ l)) (λ (y : ℕ) (e : member y l ≡ true). rw e (or-true (eqb x y))) l (every-member l) in
+    let more : (y : ℕ) → member y l ≡ true → member y (x ∷ l) ≡ true = λ y e. rw e (or-true (eqb x y)) in
+    let later = every-weaken (λ (y : ℕ). member y l) (λ (y : ℕ). member y (x ∷ l)) more l (every-member l) in
     every-cons (λ (y : ℕ). member y (x ∷ l)) x l ∙ rw (eq-eqb x x refl, later) refl
 
 module _ (n : Network) where
   -- a record for each id of a list, whose own ids these are
   ids-own : (f : ℕ → Record) (l : List ℕ) → ((x : ℕ) → ownRecord n (f x) ≡ member x l) → every (ownRecord n) (map f l) ≡ true
-  ids-own f l h = every-map (ownRecord n) f l ∙ every-weaken (λ (x : ℕ). member x l) (λ (x : ℕ). ownRecord n (f x)) (λ (x : ℕ) (e : member x l ≡ true). h x ∙ e) l (every-member l)
+  ids-own f l h =
+      every-map (ownRecord n) f l
+      ∙ every-weaken (λ (x : ℕ). member x l) (λ (x : ℕ). ownRecord n (f x)) (λ (x : ℕ) (e : member x l ≡ true). h x ∙ e) l (every-member l)
 
   round-names : (round : Round) (x : ℕ) → ownRecord n (roundRecord round x) ≡ member x (controllersOf n)
   unfolding ownRecord targetsOf any
@@ -108,7 +107,8 @@ module _ (n : Network) where
   none-own = refl
 
   -- a record that names the handle, before others
-  handle-own : (r : Record) (l : List Record) → ownRecord n r ≡ member (n .handle) (handlesOf n) → every (ownRecord n) l ≡ true → every (ownRecord n) (r ∷ l) ≡ true
+  handle-own : (r : Record) (l : List Record) →
+      ownRecord n r ≡ member (n .handle) (handlesOf n) → every (ownRecord n) l ≡ true → every (ownRecord n) (r ∷ l) ≡ true
   unfolding any
   handle-own r l h e = every-cons (ownRecord n) r l ∙ rw (h, eq-eqb (n .handle) (n .handle) refl, e) refl
 
@@ -138,7 +138,7 @@ module _ (n : Network) where
   unfolding moveRecords enteringFull enteringSilent goingDown ownRecord targetsOf any
   move-own step told Stay = none-own
   move-own step told AskAgain = requests-own (asksFor step)
-  move-own step told Count = none-own
+  move-own step told (Count next) = none-own
   move-own step told EnterFull = entering-own PduMode.Online Mode.Full Notice.Full
   move-own step told EnterSilent = entering-own PduMode.TxOffline Mode.Silent Notice.Silent
   move-own step told Pass = handle-own _ _ refl none-own

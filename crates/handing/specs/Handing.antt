@@ -6,7 +6,7 @@ use Rattle.records.specs.declared.Record.{Record}
 use Rattle.records.specs.declared.PduMode.{PduMode}
 use Rattle.records.specs.declared.Mode.{Mode}
 use Rattle.records.specs.declared.Notice.{Notice}
-use Rattle.records.specs.declared.Event.{Event}
+use Rattle.records.specs.declared.EventStatus.{EventStatus}
 use Rattle.records.specs.Records.{controllerMode, transceiverMode, pduMode, clearWake, checkWake, tells, notes, reports}
 use Rattle.settings.specs.declared.Network.{Network}
 use Rattle.settings.specs.Settings.{handlesOf, controllersOf, transceiversOf, listed, member}
@@ -67,10 +67,10 @@ goingDown n told = downNotices (n .handle) told ++ requests (asksFor (firstDown 
 unfoldable pub moveRecords : Network → Step → Mode → Move → List Record
 moveRecords n step told Stay = []
 moveRecords n step told AskAgain = requests (asksFor step) n
-moveRecords n step told Count = []
+moveRecords n step told (Count next) = []
 moveRecords n step told EnterFull = enteringFull n
 moveRecords n step told EnterSilent = enteringSilent n
-moveRecords n step told Pass = reports (n .handle) Event.Passed ∷ []
+moveRecords n step told Pass = reports (n .handle) EventStatus.Passed ∷ []
 moveRecords n step told Wait = map (roundRecord (Round.Pdu PduMode.TxOffline)) (controllersOf n)
 moveRecords n step told GoDown = goingDown n told
 moveRecords n step told EnterNoCommunication = tells (n .handle) Mode.No ∷ []
@@ -78,7 +78,7 @@ moveRecords n step told (Enter next) = requests (asksFor next) n
 
 -- "8 prefailed, 6 silent, 7 bus-off"
 unfoldable pub recovery : ℕ → List Record
-recovery handle = reports handle Event.Prefailed ∷ tells handle Mode.Silent ∷ notes handle Notice.BusOff ∷ []
+recovery handle = reports handle EventStatus.Prefailed ∷ tells handle Mode.Silent ∷ notes handle Notice.BusOff ∷ []
 
 -- "Kinds 1 and 3 name a controller, 2, 4, 5 a transceiver, 6 to 8 a handle": those of a network that a record of a kind can name
 unfoldable pub targetsOf : Network → ℕ → List ℕ

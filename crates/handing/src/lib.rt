@@ -1,6 +1,6 @@
 // What a move of a network hands out, into the lent buffer.
 use records::ControllerMode;
-use records::Event;
+use records::EventStatus;
 use records::Mode;
 use records::Notice;
 use records::PduMode;
@@ -46,14 +46,11 @@ fn put_round(out: &mut [u8], k: usize, network: Network, round: Round) -> usize
     requires { ⌜ Room (now out) k (map (roundRecord round) (controllersOf network)) ⌝ }
     ensures { λ r. ⌜ Wrote (now (out .entry)) (now (out .exit)) k r (map (roundRecord round) (controllersOf network)) ⌝ }
 {
-    let count = network.count;
     let ids = network.controllers;
+    let used = Network::in_use(network.count);
     let mut next = k;
     let mut i: u8 = 0;
-    while (i as usize) < Network::MOST_CONTROLLERS {
-        if count <= i {
-            return next;
-        }
+    while i < used {
         let handed = round_record(round, ids[i as usize]);
         next = records::put_record(out, next, handed);
         i += 1;
@@ -165,7 +162,7 @@ pub fn put_move(
             let ask = step.asks();
             put_requests(out, k, network, ask)
         }
-        Move::Count => k,
+        Move::Count(_) => k,
         Move::EnterFull => put_entering(out, k, network, PduMode::Online, Mode::Full, Notice::Full),
         Move::EnterSilent => put_entering(
             out,
@@ -176,7 +173,7 @@ pub fn put_move(
             Notice::Silent,
         ),
         Move::Pass => {
-            let passed = Record::report(network.handle, Event::Passed);
+            let passed = Record::report(network.handle, EventStatus::Passed);
             records::put_record(out, k, passed)
         }
         Move::Wait => put_round(out, k, network, Round::Pdu(PduMode::TxOffline)),
@@ -197,7 +194,7 @@ pub fn put_recovery(out: &mut [u8], handle: u8) -> usize
     requires { ⌜ Room (now out) 0 (recovery handle) ⌝ }
     ensures { λ r. ⌜ Wrote (now (out .entry)) (now (out .exit)) 0 r (recovery handle) ⌝ }
 {
-    let prefailed = Record::report(handle, Event::Prefailed);
+    let prefailed = Record::report(handle, EventStatus::Prefailed);
     let silent = Record::tell(handle, Mode::Silent);
     let noted = Record::note(handle, Notice::BusOff);
     let next = records::put_record(out, 0, prefailed);

@@ -1,12 +1,7 @@
--- What a search through the first n elements of a list learns, once for every test and every type. Assumes nothing.
-use Prim.Native.Nat.{ℕ, zero, suc, _+_, _≤_, _<_}
-use native.Mathlib.Omega.{arith}
-use native.Mathlib.Numerals.{add-one}
-use mathlib.Core.Path.{_≡_, refl, sym, ap, _∙_}
-use mathlib.Core.List.{List, [], _∷_, _++_, map}
-use mathlib.Core.Bool.{Bool, true, false, cond, not, _||_, _&&_, or-false, false≢true, true≢false}
-use lib.ListN.{length, getD, take}
-use lib.Seq.{take-all}
+-- What a search through the first n elements of a list learns, once for every test and every type.
+use Rattle.lists.proofs.Basics.{ℕ, zero, suc, _+_, _<_, min, arith, add-one, sym, ap, _∙_, List, _∷_, _++_, map, Bool, true, false, cond, not}
+use Rattle.lists.proofs.Basics.{_||_, _&&_, false≢true, true≢false, length, getD, take, _≡_, refl, []}
+use Rattle.lists.proofs.Parts.{take-min}
 use Rattle.lists.specs.Lists.{any, every, first}
 
 or-left : (a b : Bool) → a || b ≡ false → a ≡ false
@@ -76,15 +71,9 @@ module _ {A : Type 0} (p : A → Bool) where
   any-found (x ∷ l) zero (suc n) d h k f = rw f refl
   any-found (x ∷ l) (suc i) (suc n) d h k f = or-second (p x) _ (any-found l i n d (omega arith) (omega arith) f)
 
-  -- none passes among the first n, which have been seen
-  pub any-stop : (l : List A) (i n : ℕ) → i ≤ n → n ≤ i → any p (take i l) ≡ false → any p (take n l) ≡ false
-  any-stop l i n h k e = let q : n ≡ i = omega arith in ap (λ (j : ℕ). any p (take j l)) q ∙ e
-
-  -- none passes, and the list is at its end
-  pub any-out : (l : List A) (i n : ℕ) → i ≤ n → length l ≤ i → any p (take i l) ≡ false → any p (take n l) ≡ false
-  any-out l i n h k e =
-      let q : length l ≤ n = omega arith in
-      ap (any p) (take-all n l q ∙ sym (take-all i l k)) ∙ e
+  -- none passes among the first n, once as many have been seen as are there
+  pub any-end : (l : List A) (i n : ℕ) → i ≡ min n (length l) → any p (take i l) ≡ false → any p (take n l) ≡ false
+  any-end l i n h e = ap (any p) (sym (take-min l n i h)) ∙ e
 
   -- ---- first
   -- the first that passes, none having passed before it
@@ -93,7 +82,8 @@ module _ {A : Type 0} (p : A → Bool) where
   first-found [] i n d e h k f = absurd (omega arith)
   first-found (x ∷ l) i zero d e h k f = absurd (omega arith)
   first-found (x ∷ l) zero (suc n) d e h k f = rw f refl
-  first-found (x ∷ l) (suc i) (suc n) d e h k f = rw (or-left (p x) _ e) (ap suc (first-found l i n d (or-right (p x) _ e) (omega arith) (omega arith) f))
+  first-found (x ∷ l) (suc i) (suc n) d e h k f =
+      rw (or-left (p x) _ e) (ap suc (first-found l i n d (or-right (p x) _ e) (omega arith) (omega arith) f))
 
   -- where some element passes, the first that does is one of the list
   pub first-below : (l : List A) → any p l ≡ true → first p l < length l
@@ -145,7 +135,8 @@ unfolding any first
 first-passes p [] d e = absurd (false≢true e)
 first-passes p (x ∷ l) d e = by-test (p x) refl e (first-passes p l d)
   where
-    by-test : (b : Bool) → p x ≡ b → b || any p l ≡ true → (any p l ≡ true → p (getD l (first p l) d) ≡ true) → p (getD (x ∷ l) (cond b 0 (suc (first p l))) d) ≡ true
+    by-test : (b : Bool) →
+        p x ≡ b → b || any p l ≡ true → (any p l ≡ true → p (getD l (first p l) d) ≡ true) → p (getD (x ∷ l) (cond b 0 (suc (first p l))) d) ≡ true
     by-test true q f next = q
     by-test false q f next = next f
 

@@ -1,11 +1,8 @@
--- The first elements of a list, and lists that are filled up. Assumes nothing.
-use Prim.Native.Nat.{ℕ, zero, suc, _+_, _-_, _≤_, _<_, min}
-use native.Mathlib.Omega.{arith}
-use native.Mathlib.Numerals.{add-one}
-use mathlib.Core.Path.{_≡_, refl, sym, ap, _∙_}
-use mathlib.Core.List.{List, [], _∷_, _++_, map}
-use lib.ListN.{length, getD, take, drop, set, replicate, length-append, length-replicate, length-take, length-map, length-set}
-use lib.Seq.{drop-cons, take-suc, take-suc-set, take-all, length-take-le, set-append-seam, set-append-left, take-set-lt, append-snoc}
+-- The first elements of a list, and lists that are filled up.
+use Rattle.lists.proofs.Basics.{ℕ, zero, suc, _+_, _-_, _≤_, _<_, min, arith, add-one, _≡_, refl, sym, ap, _∙_, List, [], _∷_, _++_, map}
+use Rattle.lists.proofs.Basics.{length, getD, take, drop, set, replicate, length-append, length-replicate, length-take, length-map}
+use Rattle.lists.proofs.Basics.{length-set, take-all, length-take-le, append-snoc}
+use lib.Seq.{drop-cons, take-suc, take-suc-set, set-append-seam, set-append-left, take-set-lt}
 use Rattle.lists.specs.Lists.{padded, Bytes}
 
 module _ {A : Type 0} where
@@ -59,13 +56,15 @@ module _ {A : Type 0} where
   -- where a list is its first k elements, filled up, it has n elements, and there are k of these
   pub padded-length : (n : ℕ) (d : A) (l : List A) (k : ℕ) → k ≤ n → l ≡ padded n d (take k l) → length l ≡ n
   padded-length n d l k h e =
-      omega (arith, length-take k l, ap length e ∙ length-append (take k l) (replicate (n - length (take k l)) d), length-replicate (n - length (take k l)) d)
+      let f = length-take k l in
+      omega (arith, f, ap length e ∙ length-append (take k l) (replicate (n - length (take k l)) d), length-replicate (n - length (take k l)) d)
 
   pub padded-count : (n : ℕ) (d : A) (l : List A) (k : ℕ) → k ≤ n → l ≡ padded n d (take k l) → length (take k l) ≡ k
   padded-count n d l k h e = length-take-le k l (omega (arith, padded-length n d l k h e))
 
   -- a store among the first k keeps the filling
-  pub padded-store : (n : ℕ) (d a : A) (l : List A) (k i : ℕ) → l ≡ padded n d (take k l) → i < length (take k l) → set l i a ≡ padded n d (take k (set l i a))
+  pub padded-store : (n : ℕ) (d a : A) (l : List A) (k i : ℕ) →
+      l ≡ padded n d (take k l) → i < length (take k l) → set l i a ≡ padded n d (take k (set l i a))
   padded-store n d a l k i e h =
       let j : i < k = let t = length-take k l in omega arith in
       let t : take k (set l i a) ≡ set (take k l) i a = take-set-lt k l i a j in

@@ -1,10 +1,7 @@
--- Runs of stores into a buffer, one after the other. Assumes nothing.
-use Prim.Native.Nat.{ℕ, suc, _+_, _-_, _≤_, _<_}
-use native.Mathlib.Omega.{arith}
-use mathlib.Core.Path.{_≡_, refl, ap, _∙_}
-use mathlib.Core.List.{List, [], _∷_, _++_}
-use lib.ListN.{length, getD, take, drop, set, length-append}
-use lib.Seq.{sets, length-sets, take-add}
+-- Runs of stores into a buffer, one after the other.
+use Rattle.lists.proofs.Basics.{ℕ, suc, _+_, _-_, _≤_, _<_, arith, _≡_, refl, ap, _∙_, List, [], _∷_, _++_, length, getD, take, drop, set}
+use Rattle.lists.proofs.Basics.{length-append, sets, length-sets}
+use lib.Seq.{take-add}
 use Rattle.lists.specs.Stores.{Stored}
 use Rattle.lists.proofs.Parts.{take-more}
 
@@ -37,11 +34,13 @@ module _ {A : Type 0} where
   stored-length {b} {b₁} {vs} {i} s = ap length (s .buffer) ∙ length-sets b i vs
 
 -- ---- a list as a run: a run for each element, one after the other
-module _ {A B : Type 0} (run : List A → List B) (run-append : (l m : List A) → run (l ++ m) ≡ run l ++ run m) (l : List A) (i : ℕ) (d : A) (h : i < length l) where
+module _ {A B : Type 0}
+    (run : List A → List B) (run-append : (l m : List A) → run (l ++ m) ≡ run l ++ run m) (l : List A) (i : ℕ) (d : A) (h : i < length l) where
   pub run-more : run (take (i + 1) l) ≡ run (take i l) ++ run (getD l i d ∷ [])
   run-more = ap run (take-more l i d h) ∙ run-append (take i l) (getD l i d ∷ [])
 
-  pub length-more : (total more : ℕ) → total ≡ length (run (take i l)) → more ≡ length (run (getD l i d ∷ [])) → total + more ≡ length (run (take (i + 1) l))
+  pub length-more : (total more : ℕ) →
+      total ≡ length (run (take i l)) → more ≡ length (run (getD l i d ∷ [])) → total + more ≡ length (run (take (i + 1) l))
   length-more total more p q = omega (arith, ap length run-more ∙ length-append (run (take i l)) (run (getD l i d ∷ [])))
 
   -- the run of the first n elements is no shorter than that of fewer and of the next

@@ -1,12 +1,7 @@
--- Each network in sheet order: its record replaced by a loop, what the ticks hand out, and room for it; what a bus-off makes of a manager. Assumes nothing.
-use Prim.Native.Nat.{ℕ, zero, suc, _+_, _*_, _≤_, _<_, min}
-use native.Mathlib.Omega.{arith}
-use native.Mathlib.Numerals.{add-one}
-use borrow.Author.Tests.{lt-ltb, le-ltb}
-use mathlib.Core.Path.{_≡_, refl, sym, ap, _∙_}
-use mathlib.Core.List.{List, [], _∷_, _++_, append-nil, append-assoc}
-use mathlib.Core.Bool.{Bool, true, false, not}
-use lib.ListN.{length, getD, take, set, length-append}
+-- Each network in sheet order: its record replaced by a loop, what the ticks hand out, and room for it;
+-- the ways out of a call that is lent a buffer.
+use Rattle.lists.proofs.Basics.{ℕ, zero, suc, _+_, _*_, _≤_, _<_, min, arith, add-one, ltb-false, _≡_, refl, sym, ap, subst, _∙_, List, [], _∷_}
+use Rattle.lists.proofs.Basics.{_++_, append-nil, append-assoc, Bool, true, false, not, cond, ltb, length, getD, take, set, length-append}
 use lib.Seq.{set-getD}
 use Rattle.lists.proofs.Parts.{take-min}
 use Rattle.records.specs.declared.Record.{Record}
@@ -14,21 +9,26 @@ use Rattle.records.specs.Records.{bytes}
 use Rattle.records.specs.Wrote.{Room, Wrote}
 use Rattle.records.proofs.Laws.{wrote-none, wrote-then, wrote-length, stored-front}
 use Rattle.settings.specs.declared.Network.{Network}
-use Rattle.settings.specs.declared.Id.{Id}
 use Rattle.handing.specs.Handing.{recovery}
 use Rattle.handing.proofs.Laws.{length-move}
 use Rattle.network.specs.declared.State.{State}
 use Rattle.network.specs.declared.Hit.{Hit}
+use Rattle.network.specs.declared.Part.{Part}
 use Rattle.network.specs.Rules.{moveOf}
 use Rattle.network.specs.Moving.{tickState, tickRecords}
 use Rattle.network.specs.Rest.{restsIn}
-use Rattle.network.specs.BusOff.{hitOf, afterHit, hitRecords}
+use Rattle.network.specs.BusOff.{hitOf, hitRecords}
+use Rattle.network.specs.Parts.{Sight, aBusOff, hitPart, partOf, recordsOf}
 use Rattle.network.proofs.Rest.{resting-stays, resting-hands-out-nothing}
-use Rattle.manager.specs.declared.Stage.{Stage}
-use Rattle.manager.specs.declared.Answer.{Answer}
-use Rattle.manager.specs.declared.Manager.{Manager}
-use Rattle.manager.specs.Manager.{networksOf, networkAt, stateAt, withState, withStates, refused, accepted, each, allRecords, share, shares, tickNeeds}
-use Rattle.manager.specs.Calls.{bySlot, slotOf, slotBuffer, bufferWith, hitOutcome, busOffOf, busOffBuffer, tickOf, tickBuffer}
+use Rattle.slots.specs.declared.Stage.{Stage}
+use Rattle.slots.specs.declared.Answer.{Answer}
+use Rattle.slots.specs.declared.Gate.{Gate}
+use Rattle.slots.specs.declared.Slot.{Slot}
+use Rattle.slots.specs.declared.Manager.{Manager}
+use Rattle.slots.specs.declared.Outcome.{Outcome}
+use Rattle.slots.specs.Manager.{networksOf, networkAt, stateAt, withStates, refused, accepted, each, allRecords, share, shares, tickNeeds}
+use Rattle.slots.specs.Calls.{Call, byStage, settled, slotOutcome, gateOf, byGate, gateRecords, allTicked, outcome, handedOut, bufferWith}
+use Rattle.slots.specs.Calls.{Gives, SlotGives}
 
 -- ---- the records of the networks, replaced one by one
 module _ (f : Network → State → State) where
@@ -107,24 +107,10 @@ records-shares [] ss = omega arith
 records-shares (n ∷ ns) [] = omega arith
 records-shares (n ∷ ns) (s ∷ ss) = omega (arith, length-append (tickRecords n s) (allRecords ns ss), tick-share n s, records-shares ns ss)
 
--- ---- the shares, one by one
-pub shares-none : 0 ≡ shares []
-unfolding shares
-shares-none = refl
-
-shares-suc : (ns : List Network) (i : ℕ) (d : Network) → i < length ns → shares (take (suc i) ns) ≡ shares (take i ns) + share (getD ns i d)
-unfolding shares
-shares-suc [] i d h = absurd (omega arith)
-shares-suc (n ∷ ns) zero d h = omega arith
-shares-suc (n ∷ ns) (suc i) d h = omega (arith, shares-suc ns i d (omega arith))
-
--- one turn of the loop that adds them
-pub shares-more : (ns : List Network) (i : ℕ) (d : Network) → i < length ns → (total one : ℕ) → total ≡ shares (take i ns) → one ≡ share (getD ns i d) →
-    total + one ≡ shares (take (i + 1) ns)
-shares-more ns i d h total one p q = rw add-one (omega (arith, p, q, shares-suc ns i d h))
-
+-- ---- the shares
 -- the shares of the first n are no fewer than those of fewer and of the next
-pub shares-within : (ns : List Network) (i n : ℕ) (d : Network) → i < length ns → i < n → shares (take i ns) + share (getD ns i d) ≤ shares (take n ns)
+pub shares-within : (ns : List Network) (i n : ℕ) (d : Network) →
+    i < length ns → i < n → shares (take i ns) + share (getD ns i d) ≤ shares (take n ns)
 unfolding shares
 shares-within [] i n d h k = absurd (omega arith)
 shares-within (m ∷ ns) i zero d h k = absurd (omega arith)
@@ -137,18 +123,27 @@ pub rests-so : (r : Bool) {b : Bool} → r ≡ b → not r ≡ false → b ≡ t
 rests-so false p q = absurd (let z : _≡_ {A = ℕ} 0 1 = cc in omega arith)
 rests-so true p q = sym p
 
-module _ (ns : List Network) (ss now : List State) (i : ℕ) (d : Network) (e : State) (h : i < length ns) (k : i < length ss) (q : now ≡ each tickState (take i ns) ss)
-    {b b₁ : List ℕ} {r : ℕ} (w : Wrote b b₁ 0 r (allRecords (take i ns) ss)) where
+module _ (ns : List Network) (ss now : List State) (i : ℕ) (d : Network) (e : State) (h : i < length ns)
+    (k : i < length ss) (q : now ≡ each tickState (take i ns) ss) {b b₁ : List ℕ} {r : ℕ} (w : Wrote b b₁ 0 r (allRecords (take i ns) ss)) where
   still : getD now i e ≡ getD ss i e
   still = ap (λ (l : List State). getD l i e) q ∙ each-read tickState ns ss i e
 
   pub tick-room : (n : ℕ) → i < n → 3 * shares (take n ns) ≤ length b → Room b₁ r (tickRecords (getD ns i d) (getD now i e))
   tick-room n g room =
       record {
-        fits = omega (arith, room, w .count, wrote-length w, records-shares (take i ns) ss, shares-within ns i n d h g, tick-share (getD ns i d) (getD now i e));
+        fits = omega (
+          arith,
+          room,
+          w .count,
+          wrote-length w,
+          records-shares (take i ns) ss,
+          shares-within ns i n d h g,
+          tick-share (getD ns i d) (getD now i e),
+        );
       }
 
-  pub tick-wrote : {b₂ : List ℕ} {s : ℕ} → Wrote b₁ b₂ r s (tickRecords (getD ns i d) (getD now i e)) → Wrote b b₂ 0 s (allRecords (take (i + 1) ns) ss)
+  pub tick-wrote : {b₂ : List ℕ} {s : ℕ} →
+      Wrote b₁ b₂ r s (tickRecords (getD ns i d) (getD now i e)) → Wrote b b₂ 0 s (allRecords (take (i + 1) ns) ss)
   tick-wrote v = rw (records-more ns ss i d e h k) (wrote-then w (rw still at v))
 
   -- the network rests: its record is the one after a tick, and nothing is handed out
@@ -161,14 +156,15 @@ module _ (ns : List Network) (ss now : List State) (i : ℕ) (d : Network) (e : 
 
 -- ---- the outcome
 -- from the front: so many records, and the buffer that has them
-pub wrote-front : {b b₁ : List ℕ} {k : ℕ} (rs : List Record) → Wrote b b₁ 0 k rs → 3 * length rs ≤ length b → (k ≡ length rs) × (b₁ ≡ bufferWith b rs)
+pub wrote-front : {b b₁ : List ℕ} {k : ℕ} (rs : List Record) → Wrote b b₁ 0 k rs → 3 * length rs ≤ length b
+    → (k ≡ length rs) × (b₁ ≡ bufferWith b rs)
+unfolding bufferWith
 wrote-front {b} rs w h = (omega (arith, w .count), w .buffer ∙ stored-front b rs h)
 
-pub ticks-end : (m : Manager) {b b₁ : List ℕ} {k : ℕ} (now : List State) (i : ℕ) → i ≡ min (m .count) (length (m .networks)) → tickNeeds m ≤ length b →
-    now ≡ each tickState (take i (m .networks)) (m .states) → Wrote b b₁ 0 k (allRecords (take i (m .networks)) (m .states)) →
-    (accepted (withStates m Stage.Started now) k ≡ accepted (withStates m Stage.Started (each tickState (networksOf m) (m .states))) (length (allRecords (networksOf m) (m .states))))
-    × (b₁ ≡ bufferWith b (allRecords (networksOf m) (m .states)))
-unfolding tickNeeds
+pub ticks-end : (m : Manager) {b b₁ : List ℕ} {k : ℕ} (now : List State) (i : ℕ) → i ≡ min (m .count) (length (m .networks)) → tickNeeds
+    m ≤ length b → now ≡ each tickState (take i (m .networks)) (m .states) → Wrote b b₁ 0 k (allRecords (take i (m .networks)) (m .states)) →
+    (accepted (withStates m Stage.Started now) k ≡ allTicked m) × (b₁ ≡ bufferWith b (allRecords (networksOf m) (m .states)))
+unfolding tickNeeds allTicked
 ticks-end m {b} {b₁} {k} now i e room q w =
     let t = take-min (m .networks) (m .count) i e in
     let rs = allRecords (networksOf m) (m .states) in
@@ -178,34 +174,61 @@ ticks-end m {b} {b₁} {k} now i e room q w =
     let p : now ≡ each tickState (networksOf m) (m .states) = rw t at q in
     (rw (p, g .0), g .1)
 
--- the bytes that a tick needs, once the shares of all are added
-pub needs-end : (m : Manager) (i total : ℕ) → i ≡ min (m .count) (length (m .networks)) → total ≡ shares (take i (m .networks)) → 3 * total ≡ tickNeeds m
-unfolding tickNeeds
-needs-end m i total e p = rw (p, take-min (m .networks) (m .count) i e)
+-- ---- a call that is lent a buffer
+-- what it gives is a pair: the outcome, and the buffer with the records
+abbrev Ends : Manager → List ℕ → Outcome → List Record → Outcome → List ℕ → Type 0
+Ends m b o rs r after = (r ≡ o) × (after ≡ bufferWith b rs)
 
--- the ways out of a tick
-module _ (m : Manager) (b : List ℕ) where
-  pub tick-empty : m .stage ≡ Stage.Empty → (refused m Answer.NotReady ≡ tickOf m b) × (b ≡ tickBuffer m b)
-  unfolding tickOf tickBuffer
-  tick-empty p = (rw p, rw p)
+-- it is refused: nothing is written
+pub refused-ends : (m : Manager) (b : List ℕ) (answer : Answer) (r : Outcome) → r ≡ refused m answer → Ends m b (refused m answer) [] r b
+unfolding bufferWith bytes
+refused-ends m b answer r e = (e, refl)
 
-  pub tick-loaded : m .stage ≡ Stage.Loaded → (refused m Answer.NotReady ≡ tickOf m b) × (b ≡ tickBuffer m b)
-  unfolding tickOf tickBuffer
-  tick-loaded p = (rw p, rw p)
+-- by its gate
+pub gate-shut : (m : Manager) (c : Call) (b : List ℕ) (o r : Outcome) (rs : List Record) (gate x : Gate) (answer : Answer) →
+    x ≡ gate → x ≡ Gate.Refused answer → r ≡ refused m answer → outcome m c ≡ byGate m gate o → handedOut m c ≡ gateRecords gate rs → Gives m c b r b
+gate-shut m c b o r rs gate x answer p e f po ph =
+    let g : gate ≡ Gate.Refused answer = sym p ∙ e in
+    let t = refused-ends m b answer r f in
+    record {
+      result = t .0 ∙ sym (po ∙ ap (λ (y : Gate). byGate m y o) g);
+      buffer = t .1 ∙ sym (ap (bufferWith b) (ph ∙ ap (λ (y : Gate). gateRecords y rs) g));
+    }
 
-  pub tick-short : m .stage ≡ Stage.Started → (needed : ℕ) → needed ≡ tickNeeds m → length b < needed → (refused m Answer.TooShort ≡ tickOf m b) × (b ≡ tickBuffer m b)
-  unfolding tickOf tickBuffer
-  tick-short p needed e h =
-      let t = lt-ltb (length b) (tickNeeds m) (rw e at h) in
-      (rw (t, p), rw (t, p))
+pub gate-open : (m : Manager) (c : Call) (b after : List ℕ) (o r : Outcome) (rs : List Record) (gate x : Gate) → x ≡ gate → x ≡ Gate.Open
+    → r ≡ o → after ≡ bufferWith b rs → outcome m c ≡ byGate m gate o → handedOut m c ≡ gateRecords gate rs → Gives m c b r after
+gate-open m c b after o r rs gate x p e f h po ph =
+    let g : gate ≡ Gate.Open = sym p ∙ e in
+    record {
+      result = f ∙ sym (po ∙ ap (λ (y : Gate). byGate m y o) g);
+      buffer = h ∙ sym (ap (bufferWith b) (ph ∙ ap (λ (y : Gate). gateRecords y rs) g));
+    }
 
-  pub tick-taken : m .stage ≡ Stage.Started → (needed : ℕ) → needed ≡ tickNeeds m → needed ≤ length b →
-      (accepted (withStates m Stage.Started (each tickState (networksOf m) (m .states))) (length (allRecords (networksOf m) (m .states))) ≡ tickOf m b)
-      × (bufferWith b (allRecords (networksOf m) (m .states)) ≡ tickBuffer m b)
-  unfolding tickOf tickBuffer
-  tick-taken p needed e h =
-      let t = le-ltb (length b) (tickNeeds m) (rw e at h) in
-      (rw (t, p), rw (t, p))
+-- by the slot that its id names
+pub slot-shut : (m : Manager) (sight : Sight) (b : List ℕ) (r : Outcome) (slot x : Slot) (answer : Answer) → x ≡ slot → x ≡ Slot.Refused answer
+    → r ≡ refused m answer → SlotGives m slot sight b r b
+slot-shut m sight b r slot x answer p e f =
+    let t = refused-ends m b answer r f in
+    subst (λ (y : Slot). SlotGives m y sight b r b) (sym e ∙ p) (record { result = t .0; buffer = t .1 })
+
+pub slot-open : (m : Manager) (sight : Sight) (slot x y : Slot) {b after : List ℕ} {r : Outcome} → x ≡ slot → x ≡ y → SlotGives m y sight b r after
+    → SlotGives m slot sight b r after
+slot-open m sight slot x y {b} {after} {r} p e g = subst (λ (z : Slot). SlotGives m z sight b r after) (sym e ∙ p) g
+
+-- where it goes on there is room
+pub open-roomy : (m : Manager) (room needs : ℕ) → gateOf m room needs ≡ Gate.Open → needs ≤ room
+unfolding gateOf
+open-roomy m room needs = by-stage (m .stage)
+  where
+    by-test : (short : Bool) → ltb room needs ≡ short → cond short (Gate.Refused Answer.TooShort) Gate.Open ≡ Gate.Open → needs ≤ room
+    by-test true t e = absurd (let z : _≡_ {A = ℕ} 0 1 = cc in omega arith)
+    by-test false t e = ltb-false room needs t
+
+    by-stage : (g : Stage) → byStage g (Gate.Refused Answer.NotReady)
+        (Gate.Refused Answer.NotReady) (cond (ltb room needs) (Gate.Refused Answer.TooShort) Gate.Open) ≡ Gate.Open → needs ≤ room
+    by-stage Stage.Empty e = absurd (let z : _≡_ {A = ℕ} 0 1 = cc in omega arith)
+    by-stage Stage.Loaded e = absurd (let z : _≡_ {A = ℕ} 0 1 = cc in omega arith)
+    by-stage Stage.Started e = by-test (ltb room needs) refl e
 
 -- ---- a bus-off
 pub room-recovery : (b : List ℕ) (handle : ℕ) → 9 ≤ length b → Room b 0 (recovery handle)
@@ -218,55 +241,17 @@ hit-few n Hit.Recover = omega arith
 hit-few n Hit.Restart = omega arith
 hit-few n Hit.NotTaken = omega arith
 
--- what the network made of it, as the manager's outcome
-module _ (m : Manager) (i : ℕ) (n : Network) (s after : State) (hit : Hit) (next : Manager) {b b₁ : List ℕ} {k : ℕ}
-    (en : n ≡ networkAt m i) (es : s ≡ stateAt m i) (eh : hit ≡ hitOf (s .step)) (ea : after ≡ afterHit s (hitOf (s .step)))
-    (w : Wrote b b₁ 0 k (hitRecords n (hitOf (s .step)))) (ex : next ≡ withState m i after) (room : 9 ≤ length b) where
-  hit-front : (k ≡ length (hitRecords (networkAt m i) (hitOf (stateAt m i .step)))) × (b₁ ≡ bufferWith b (hitRecords (networkAt m i) (hitOf (stateAt m i .step))))
-  hit-front =
-      let rs = hitRecords (networkAt m i) (hitOf (stateAt m i .step)) in
-      let v : Wrote b b₁ 0 k rs = rw (en, es) at w in
-      wrote-front rs v (omega (arith, room, hit-few (networkAt m i) (hitOf (stateAt m i .step))))
-
-  is-hit : {x : Hit} → hit ≡ x → hitOf (stateAt m i .step) ≡ x
-  is-hit e = ap (λ (t : State). hitOf (t .step)) (sym es) ∙ sym eh ∙ e
-
-  after-is : {x : Hit} → hit ≡ x → next ≡ withState m i (afterHit (stateAt m i) x)
-  after-is {x} e =
-      let f : after ≡ afterHit (stateAt m i) x = ea ∙ ap (λ (t : State). afterHit t (hitOf (t .step))) es ∙ ap (afterHit (stateAt m i)) (is-hit e) in
-      ex ∙ ap (λ (t : State). withState m i t) f
-
-  pub hit-recovers : hit ≡ Hit.Recover → (accepted next k ≡ hitOutcome m i (hitOf (stateAt m i .step))) × (b₁ ≡ bufferWith b (hitRecords (networkAt m i) (hitOf (stateAt m i .step))))
-  hit-recovers e =
-      let count : k ≡ length (hitRecords (networkAt m i) Hit.Recover) = hit-front .0 ∙ ap (λ (x : Hit). length (hitRecords (networkAt m i) x)) (is-hit e) in
-      (rw (is-hit e, after-is e, count), hit-front .1)
-
-  pub hit-restarts : hit ≡ Hit.Restart → (accepted next 0 ≡ hitOutcome m i (hitOf (stateAt m i .step))) × (b₁ ≡ bufferWith b (hitRecords (networkAt m i) (hitOf (stateAt m i .step))))
-  hit-restarts e = (rw (is-hit e, after-is e), hit-front .1)
-
-  pub hit-refused : hit ≡ Hit.NotTaken → (refused m Answer.NotTaken ≡ hitOutcome m i (hitOf (stateAt m i .step))) × (b₁ ≡ bufferWith b (hitRecords (networkAt m i) (hitOf (stateAt m i .step))))
-  hit-refused e = (rw (is-hit e), hit-front .1)
-
--- the ways out of a bus-off
-module _ (m : Manager) (id : ℕ) (b : List ℕ) where
-  pub bus-off-empty : m .stage ≡ Stage.Empty → (refused m Answer.NotReady ≡ busOffOf m id b) × (b ≡ busOffBuffer m id b)
-  unfolding busOffOf busOffBuffer
-  bus-off-empty p = (rw p, rw p)
-
-  pub bus-off-loaded : m .stage ≡ Stage.Loaded → (refused m Answer.NotReady ≡ busOffOf m id b) × (b ≡ busOffBuffer m id b)
-  unfolding busOffOf busOffBuffer
-  bus-off-loaded p = (rw p, rw p)
-
-  pub bus-off-short : m .stage ≡ Stage.Started → length b < 9 → (refused m Answer.TooShort ≡ busOffOf m id b) × (b ≡ busOffBuffer m id b)
-  unfolding busOffOf busOffBuffer
-  bus-off-short p h =
-      let t = lt-ltb (length b) 9 h in
-      (rw (t, p), rw (t, p))
-
-  pub bus-off-taken : m .stage ≡ Stage.Started → 9 ≤ length b →
-      (bySlot m (slotOf m (Id.OfController id)) Answer.NoController (λ (i : ℕ). hitOutcome m i (hitOf (stateAt m i .step))) ≡ busOffOf m id b)
-      × (slotBuffer m (slotOf m (Id.OfController id)) b ≡ busOffBuffer m id b)
-  unfolding busOffOf busOffBuffer
-  bus-off-taken p h =
-      let t = le-ltb (length b) 9 h in
-      (rw (t, p), rw (t, p))
+-- what the network made of it, as the outcome of its slot
+pub slot-struck : (m : Manager) (i : ℕ) (n : Network) (s : State) (part : Part) (r : Outcome) {b b₁ : List ℕ} {k : ℕ}
+    → n ≡ networkAt m i → s ≡ stateAt m i → part ≡ hitPart s (hitOf (s .step)) → Wrote b b₁ 0 k (hitRecords n (hitOf (s .step)))
+    → 9 ≤ length b → r ≡ settled m i (part .reply) (part .state) k → SlotGives m (Slot.At i) aBusOff b r b₁
+unfolding slotOutcome partOf recordsOf
+slot-struck m i n s part r {b} {b₁} {k} en es ep w room er =
+    let rs = hitRecords (networkAt m i) (hitOf (stateAt m i .step)) in
+    let v : Wrote b b₁ 0 k rs = rw (en, es) at w in
+    let front = wrote-front rs v (omega (arith, room, hit-few (networkAt m i) (hitOf (stateAt m i .step)))) in
+    let q : part ≡ hitPart (stateAt m i) (hitOf (stateAt m i .step)) = ep ∙ ap (λ (t : State). hitPart t (hitOf (t .step))) es in
+    record {
+      result = er ∙ ap (settled m i (part .reply) (part .state)) (front .0) ∙ ap (λ (p : Part). settled m i (p .reply) (p .state) (length rs)) q;
+      buffer = front .1;
+    }

@@ -1,175 +1,23 @@
 // The state manager of 1 to 8 networks: its public calls. Each takes the manager and gives back the next one, beside its answer.
+mod answering;
 mod bus_offs;
-mod finding;
-mod listening;
 mod requesting;
-mod room;
 mod setting_up;
 mod ticking;
 
-ghost use mathlib.Core.Path.{_≡_};
-ghost use Rattle.manager.specs.Manager.{answerNumber, refused, accepted, networkAt, stateAt, withState};
+pub use answering::check_done;
+pub use answering::clear_done;
+pub use answering::controller_answer;
+pub use answering::transceiver_mode;
 pub use bus_offs::bus_off;
-use entries::Fault;
-pub use listening::check_done;
-pub use listening::clear_done;
-pub use listening::controller_answer;
-pub use listening::transceiver_mode;
-use network::State;
 pub use requesting::poll;
 pub use requesting::request;
 pub use setting_up::new;
 pub use setting_up::read;
 pub use setting_up::start;
 pub use setting_up::write;
-use settings::Network;
-use settings::Settings;
+pub use slots::Answer;
+pub use slots::Manager;
+pub use slots::Outcome;
+pub use slots::Stage;
 pub use ticking::tick;
-
-// Whether the manager has a sheet, and whether it was started.
-pub enum Stage {
-    Empty,
-    Loaded,
-    Started,
-}
-
-// The networks of the sheet, in its order, and the record of each; unused slots are blank.
-pub struct Manager {
-    pub stage: Stage,
-    pub count: u8,
-    pub networks: [Network; Settings::MOST_NETWORKS],
-    pub states: [State; Settings::MOST_NETWORKS],
-}
-
-// The slot of a network that an id names.
-pub enum Slot {
-    // The manager is not started.
-    NotReady,
-    Nobody,
-    At(usize),
-}
-
-// What a call answers.
-pub enum Answer {
-    Accepted,
-    // 01: it needs a started manager, or a sheet.
-    NotReady,
-    // 0B: the manager was started.
-    Running,
-    // 20: the lent buffer is too short.
-    TooShort,
-    // 03, 04, 05: nobody has this handle, controller, transceiver.
-    NoHandle,
-    NoController,
-    NoTransceiver,
-    // 21: a mode or ok value out of its range.
-    OutOfRange,
-    // 08: silent asked for in a step other than 4 to 8.
-    NotUp,
-    // 22: an answer or bus-off that the step does not take.
-    NotTaken,
-    // 30 to 38: the sheet.
-    Sheet(Fault),
-}
-
-impl Answer {
-    // The number of this answer.
-    pub fn number(self) -> u8
-        ensures { λ r. ⌜ r ≡ answerNumber self ⌝ }
-    {
-        match self {
-            Answer::Accepted => 0x00,
-            Answer::NotReady => 0x01,
-            Answer::Running => 0x0B,
-            Answer::TooShort => 0x20,
-            Answer::NoHandle => 0x03,
-            Answer::NoController => 0x04,
-            Answer::NoTransceiver => 0x05,
-            Answer::OutOfRange => 0x21,
-            Answer::NotUp => 0x08,
-            Answer::NotTaken => 0x22,
-            Answer::Sheet(fault) => fault.number(),
-        }
-    }
-}
-
-// What a call gives: its answer, the next manager, a count (of records, of networks, of bytes written), the polled mode, the place.
-pub struct Outcome {
-    pub answer: Answer,
-    pub manager: Manager,
-    pub count: usize,
-    pub mode: u8,
-    pub place: usize,
-}
-
-impl Outcome {
-    // The manager stays as it was. Beside a refusal every count and a polled mode are 0.
-    pub fn refuse(manager: Manager, answer: Answer) -> Outcome
-        ensures { λ r. ⌜ r ≡ refused manager answer ⌝ }
-    {
-        Outcome {
-            answer,
-            manager,
-            count: 0,
-            mode: 0,
-            place: 0,
-        }
-    }
-
-    // Accepted, with nothing to count.
-    pub fn accept(manager: Manager) -> Outcome
-        ensures { λ r. ⌜ r ≡ accepted manager 0 ⌝ }
-    {
-        Outcome {
-            answer: Answer::Accepted,
-            manager,
-            count: 0,
-            mode: 0,
-            place: 0,
-        }
-    }
-}
-
-impl Manager {
-    // The largest number of a mode, and the number that says ok.
-    pub const MOST_MODE: u8 = 2;
-
-    pub const OK: u8 = 1;
-    // The bytes that a bus-off needs: three records.
-    pub const BUS_OFF_NEEDS: usize = 9;
-    // The most records of a tick that name a network's handle and no controller.
-    pub const NOTICES: usize = 2;
-
-    // The network of a slot; past the slots it is blank.
-    pub fn network_at(self, at: usize) -> Network
-        ensures { λ r. ⌜ r ≡ networkAt self at ⌝ }
-    {
-        let networks = self.networks;
-        if at < Settings::MOST_NETWORKS {
-            return networks[at];
-        }
-        Network::blank()
-    }
-
-    // The record of a slot; past the slots it is blank.
-    pub fn state_at(self, at: usize) -> State
-        ensures { λ r. ⌜ r ≡ stateAt self at ⌝ }
-    {
-        let states = self.states;
-        if at < Settings::MOST_NETWORKS {
-            return states[at];
-        }
-        setting_up::blank_state()
-    }
-
-    // The manager with the record of one network new.
-    pub fn with_state(self, at: usize, state: State) -> Manager
-        ensures { λ r. ⌜ r ≡ withState self at state ⌝ }
-    {
-        let mut next = self;
-        if at < Settings::MOST_NETWORKS {
-            next.states[at] = state;
-        }
-        next
-    }
-}

@@ -1,42 +1,25 @@
 // A new manager, its sheet and its start.
-use crate::Answer;
-use crate::Manager;
-use crate::Outcome;
-use crate::Stage;
 use network::State;
-use records::Mode;
 use settings::Network;
 use settings::Settings;
 use sheet::Reading;
 use sheet::Written;
-use steps::Step;
+use slots::Answer;
+use slots::Manager;
+use slots::Outcome;
+use slots::Stage;
 ghost use mathlib.Core.Path.{_≡_};
-ghost use Rattle.manager.specs.Manager.{blankState, settingsOf, networksOf, withStates, each};
-ghost use Rattle.manager.specs.Calls.{newManager, loaded, afterReading, readOf, afterWriting, writeOf, writeBuffer, startOf};
-ghost use Rattle.network.specs.State.{started};
-ghost use Rattle.sheet.specs.Writing.{written, bufferAfter};
-
-pub fn blank_state() -> State
-    ensures { λ r. ⌜ r ≡ blankState ⌝ }
-{
-    let answers = State::no_answers();
-    State {
-        step: Step::NoCommunication,
-        wanted: Mode::No,
-        told: Mode::No,
-        count: 0,
-        asked: false,
-        answers,
-        reported: false,
-    }
-}
+ghost use lib.ListN.{length};
+ghost use Rattle.sheet.specs.Writing.{bufferAfter};
+ghost use Rattle.slots.specs.Manager.{settingsOf};
+ghost use Rattle.slots.specs.Calls as calls;
 
 // A manager with no sheet.
 pub fn new() -> Manager
-    ensures { λ r. ⌜ r ≡ newManager ⌝ }
+    ensures { λ r. ⌜ r ≡ calls.newManager ⌝ }
 {
     let network = Network::blank();
-    let state = blank_state();
+    let state = slots::blank_state();
     Manager {
         stage: Stage::Empty,
         count: 0,
@@ -46,10 +29,10 @@ pub fn new() -> Manager
 }
 
 fn load(settings: Settings) -> Manager
-    ensures { λ r. ⌜ r ≡ loaded settings ⌝ }
+    ensures { λ r. ⌜ r ≡ calls.loaded settings ⌝ }
 {
     let networks = settings.networks;
-    let state = blank_state();
+    let state = slots::blank_state();
     Manager {
         stage: Stage::Loaded,
         count: settings.count,
@@ -60,19 +43,19 @@ fn load(settings: Settings) -> Manager
 
 // What a reading of a sheet gives.
 fn after_reading(manager: Manager, reading: Reading) -> Outcome
-    ensures { λ r. ⌜ r ≡ afterReading manager reading (reading .answer) ⌝ }
+    ensures { λ r. ⌜ r ≡ calls.afterReading manager reading (reading .answer) ⌝ }
 {
     let answer = reading.answer;
     let settings = reading.settings;
     match answer {
-        sheet::Answer::Accepted => Outcome {
+        sheet::Verdict::Accepted => Outcome {
             answer: Answer::Accepted,
             manager: load(settings),
             count: settings.count as usize,
             mode: 0,
             place: reading.place,
         },
-        sheet::Answer::Refused(fault) => Outcome {
+        sheet::Verdict::Refused(fault) => Outcome {
             answer: Answer::Sheet(fault),
             manager,
             count: 0,
@@ -84,7 +67,7 @@ fn after_reading(manager: Manager, reading: Reading) -> Outcome
 
 // Reads a sheet. Reading again before the start replaces it; a refused reading keeps the old one.
 pub fn read(manager: Manager, bytes: &[u8]) -> Outcome
-    ensures { λ r. ⌜ r ≡ readOf manager (now (bytes .entry)) ⌝ }
+    ensures { λ r. ⌜ r ≡ calls.outcome manager (calls.read (now (bytes .entry))) ⌝ }
 {
     let stage = manager.stage;
     match stage {
@@ -95,7 +78,7 @@ pub fn read(manager: Manager, bytes: &[u8]) -> Outcome
 }
 
 fn after_writing(manager: Manager, answer: Written) -> Outcome
-    ensures { λ r. ⌜ r ≡ afterWriting manager answer ⌝ }
+    ensures { λ r. ⌜ r ≡ calls.afterWriting manager answer ⌝ }
 {
     match answer {
         Written::Short => Outcome::refuse(manager, Answer::TooShort),
@@ -110,7 +93,8 @@ fn after_writing(manager: Manager, answer: Written) -> Outcome
 }
 
 fn write_sheet(manager: Manager, buffer: &mut [u8]) -> Outcome
-    ensures { λ r. ⌜ (r ≡ afterWriting manager (written (settingsOf manager) (now (buffer .entry)))) × (now (buffer .exit) ≡ bufferAfter (settingsOf manager) (now (buffer .entry))) ⌝ }
+    ensures { λ r. ⌜ (r ≡ calls.writingOf manager (length (now (buffer .entry))))
+        × (now (buffer .exit) ≡ bufferAfter (settingsOf manager) (now (buffer .entry))) ⌝ }
 {
     let networks = manager.networks;
     let settings = Settings {
@@ -123,7 +107,7 @@ fn write_sheet(manager: Manager, buffer: &mut [u8]) -> Outcome
 
 // Writes the sheet into a lent buffer, before and after the start.
 pub fn write(manager: Manager, buffer: &mut [u8]) -> Outcome
-    ensures { λ r. ⌜ (r ≡ writeOf manager (now (buffer .entry))) × (now (buffer .exit) ≡ writeBuffer manager (now (buffer .entry))) ⌝ }
+    ensures { λ r. ⌜ calls.Writes manager (now (buffer .entry)) r (now (buffer .exit)) ⌝ }
 {
     let stage = manager.stage;
     match stage {
@@ -135,21 +119,14 @@ pub fn write(manager: Manager, buffer: &mut [u8]) -> Outcome
 
 // Every network in its first down step.
 fn start_networks(manager: Manager) -> Manager
-    ensures { λ r. ⌜ r ≡ withStates manager Stage.Started (each (λ n s. started n) (networksOf manager) (manager .states)) ⌝ }
+    ensures { λ r. ⌜ r ≡ calls.startedFrom manager ⌝ }
 {
     let count = manager.count;
     let networks = manager.networks;
     let mut states = manager.states;
+    let used = Settings::in_use(count);
     let mut i: u8 = 0;
-    while (i as usize) < Settings::MOST_NETWORKS {
-        if count <= i {
-            return Manager {
-                stage: Stage::Started,
-                count,
-                networks,
-                states,
-            };
-        }
+    while i < used {
         let network = networks[i as usize];
         states[i as usize] = State::start(network);
         i += 1;
@@ -164,7 +141,7 @@ fn start_networks(manager: Manager) -> Manager
 
 // Starts the manager.
 pub fn start(manager: Manager) -> Outcome
-    ensures { λ r. ⌜ r ≡ startOf manager ⌝ }
+    ensures { λ r. ⌜ r ≡ calls.outcome manager calls.start ⌝ }
 {
     let stage = manager.stage;
     match stage {

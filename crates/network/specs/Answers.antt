@@ -11,7 +11,7 @@ use Rattle.settings.specs.declared.Network.{Network}
 use Rattle.settings.specs.Settings.{controllersOf, member}
 use Rattle.steps.specs.declared.Ask.{Ask}
 use Rattle.steps.specs.Steps.{asksFor}
-use Rattle.network.specs.declared.Answer.{Answer}
+use Rattle.network.specs.declared.LastAnswer.{LastAnswer}
 use Rattle.network.specs.declared.Heard.{Heard}
 use Rattle.network.specs.declared.Report.{Report}
 use Rattle.network.specs.declared.State.{State}
@@ -42,8 +42,8 @@ unfoldable pub takesReport : State → Report → Bool
 takesReport s report = cond (s .asked) (awaits (asksFor (s .step)) report) false
 
 -- "ok 0 or 1": 1, here true, is ok; 0 is a refusal
-abbrev pub answerOf : Bool → Answer
-answerOf ok = cond ok Answer.Okay Answer.Refused
+abbrev pub answerOf : Bool → LastAnswer
+answerOf ok = cond ok LastAnswer.Okay LastAnswer.Refused
 
 -- the answers with one of them new
 abbrev pub withAnswers : State → List Heard → State

@@ -2,40 +2,22 @@
 -- asked, answers forgotten. In 3: not asked, answers forgotten, nothing handed out. Elsewhere 22."
 use Prim.Native.Nat.{ℕ, _+_}
 use mathlib.Core.List.{List, []}
-use mathlib.Core.Bool.{Bool, true, false, cond}
+use mathlib.Core.Bool.{Bool, false, cond}
 use lib.Dec.{ltb}
 use Rattle.records.specs.declared.Record.{Record}
 use Rattle.records.specs.declared.Mode.{Mode}
 use Rattle.settings.specs.declared.Network.{Network}
 use Rattle.handing.specs.Handing.{recovery}
 use Rattle.steps.specs.declared.Step.{Step}
-use Rattle.steps.specs.declared.Step.the-variants.{NoCommunication, TransceiverNormal, ControllersStopped, ControllersStarted, Checking, Full, Restarting, Waiting, Silent, ClearWake, DownStopped, TransceiverStandby, ControllersSleep, CheckWake, CheckWakeAgain}
-use Rattle.steps.specs.Steps.{isUp}
+use Rattle.steps.specs.declared.Step.the-variants.{Restarting}
+use Rattle.steps.specs.Steps.{asksFor, isUp, asksToStart}
 use Rattle.network.specs.declared.Hit.{Hit}
 use Rattle.network.specs.declared.State.{State}
 use Rattle.network.specs.State.{blankAnswers}
 
--- step 3
-abbrev pub isStarting : Step → Bool
-isStarting NoCommunication = false
-isStarting TransceiverNormal = false
-isStarting ControllersStopped = false
-isStarting ControllersStarted = true
-isStarting (Checking t) = false
-isStarting Full = false
-isStarting Restarting = false
-isStarting (Waiting t) = false
-isStarting Silent = false
-isStarting ClearWake = false
-isStarting DownStopped = false
-isStarting TransceiverStandby = false
-isStarting ControllersSleep = false
-isStarting CheckWake = false
-isStarting CheckWakeAgain = false
-
 -- "In 4 to 8" recovery begins; "In 3" the controllers are asked anew; "Elsewhere 22"
 unfoldable pub hitOf : Step → Hit
-hitOf step = cond (isUp step) Hit.Recover (cond (isStarting step) Hit.Restart Hit.NotTaken)
+hitOf step = cond (isUp step) Hit.Recover (cond (asksToStart (asksFor step)) Hit.Restart Hit.NotTaken)
 
 -- "count up by one, staying at 255"
 abbrev pub raised : ℕ → ℕ

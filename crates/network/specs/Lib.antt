@@ -4,3 +4,4 @@ pub mod Moving
 pub mod Answers
 pub mod BusOff
 pub mod Rest
+pub mod Parts

@@ -23,7 +23,7 @@ lowered Mode.Full = Mode.Silent
 abbrev pub toldAfter : Move → Mode → Mode
 toldAfter Stay told = told
 toldAfter AskAgain told = told
-toldAfter Count told = told
+toldAfter (Count next) told = told
 toldAfter EnterFull told = Mode.Full
 toldAfter EnterSilent told = Mode.Silent
 toldAfter Pass told = told
@@ -36,7 +36,7 @@ toldAfter (Enter next) told = told
 abbrev pub countAfter : Move → ℕ → ℕ
 countAfter Stay count = count
 countAfter AskAgain count = count
-countAfter Count count = count
+countAfter (Count next) count = count
 countAfter EnterFull count = count
 countAfter EnterSilent count = count
 countAfter Pass count = 0
@@ -49,7 +49,7 @@ countAfter (Enter next) count = count
 abbrev pub asksAfter : Move → Bool → Bool
 asksAfter Stay asked = asked
 asksAfter AskAgain asked = true
-asksAfter Count asked = asked
+asksAfter (Count next) asked = asked
 asksAfter EnterFull asked = false
 asksAfter EnterSilent asked = false
 asksAfter Pass asked = false
@@ -62,7 +62,7 @@ asksAfter (Enter next) asked = true
 abbrev pub keepsAnswers : Move → Bool
 keepsAnswers Stay = true
 keepsAnswers AskAgain = true
-keepsAnswers Count = true
+keepsAnswers (Count next) = true
 keepsAnswers EnterFull = false
 keepsAnswers EnterSilent = false
 keepsAnswers Pass = false

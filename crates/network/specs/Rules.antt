@@ -6,29 +6,28 @@ use lib.Dec.{leb, ltb}
 use Rattle.lists.specs.Lists.{any, every}
 use Rattle.settings.specs.declared.Transceiver.{Transceiver}
 use Rattle.settings.specs.declared.Network.{Network}
-use Rattle.steps.specs.declared.Step.{Step}
-use Rattle.steps.specs.declared.Step.the-variants.{NoCommunication, TransceiverNormal, ControllersStopped, ControllersStarted, Checking, Full, Restarting, Waiting, Silent, ClearWake, DownStopped, TransceiverStandby, ControllersSleep, CheckWake, CheckWakeAgain}
 use Rattle.steps.specs.declared.Ask.{Ask}
+use Rattle.steps.specs.declared.Timer.{Timer}
 use Rattle.steps.specs.declared.Outfit.{Outfit}
 use Rattle.steps.specs.declared.Move.{Move}
-use Rattle.steps.specs.Steps.{asksFor}
+use Rattle.steps.specs.Steps.{asksFor, timerOf}
 use Rattle.steps.specs.Decision.{decision}
-use Rattle.network.specs.declared.Answer.{Answer}
+use Rattle.network.specs.declared.LastAnswer.{LastAnswer}
 use Rattle.network.specs.declared.Heard.{Heard}
 use Rattle.network.specs.declared.State.{State}
 use Rattle.network.specs.State.{heardOf}
 
 -- the controller answered ok in this step; one that has not answered yet is not ok
-abbrev pub okay : Answer → Bool
-okay Answer.Pending = false
-okay Answer.Okay = true
-okay Answer.Refused = false
+abbrev pub okay : LastAnswer → Bool
+okay LastAnswer.Pending = false
+okay LastAnswer.Okay = true
+okay LastAnswer.Refused = false
 
 -- the controller answered with ok 0; no answer is no refusal
-abbrev pub refusal : Answer → Bool
-refusal Answer.Pending = false
-refusal Answer.Okay = false
-refusal Answer.Refused = true
+abbrev pub refusal : LastAnswer → Bool
+refusal LastAnswer.Pending = false
+refusal LastAnswer.Okay = false
+refusal LastAnswer.Refused = true
 
 -- the slot of a controller holds an ok
 abbrev pub isOkay : Heard → Bool
@@ -50,24 +49,6 @@ doneBy Ask.CheckWake hs reported = reported
 unfoldable pub isDone : Network → State → Bool
 isDone n s = cond (s .asked) (doneBy (asksFor (s .step)) (heardOf n s) (s .reported)) false
 
--- step 12
-abbrev pub isSleep : Step → Bool
-isSleep NoCommunication = false
-isSleep TransceiverNormal = false
-isSleep ControllersStopped = false
-isSleep ControllersStarted = false
-isSleep (Checking t) = false
-isSleep Full = false
-isSleep Restarting = false
-isSleep (Waiting t) = false
-isSleep Silent = false
-isSleep ClearWake = false
-isSleep DownStopped = false
-isSleep TransceiverStandby = false
-isSleep ControllersSleep = true
-isSleep CheckWake = false
-isSleep CheckWakeAgain = false
-
 -- "L2 (count above threshold) or L1 (otherwise)"
 abbrev pub isLong : ℕ → ℕ → Bool
 isLong threshold count = ltb threshold count
@@ -77,22 +58,10 @@ unfoldable pub delayOf : Network → ℕ → ℕ
 delayOf n count = cond (isLong (n .threshold) count) (n .long) (n .short)
 
 -- "the tick count rises by one; when it reaches" its time
-abbrev pub reachedBy : Step → ℕ → ℕ → Bool
-reachedBy NoCommunication ensure delay = false
-reachedBy TransceiverNormal ensure delay = false
-reachedBy ControllersStopped ensure delay = false
-reachedBy ControllersStarted ensure delay = false
-reachedBy (Checking t) ensure delay = leb ensure (t + 1)
-reachedBy Full ensure delay = false
-reachedBy Restarting ensure delay = false
-reachedBy (Waiting t) ensure delay = leb delay (t + 1)
-reachedBy Silent ensure delay = false
-reachedBy ClearWake ensure delay = false
-reachedBy DownStopped ensure delay = false
-reachedBy TransceiverStandby ensure delay = false
-reachedBy ControllersSleep ensure delay = false
-reachedBy CheckWake ensure delay = false
-reachedBy CheckWakeAgain ensure delay = false
+abbrev pub reachedBy : Timer → ℕ → ℕ → Bool
+reachedBy Timer.Idle ensure delay = false
+reachedBy (Timer.Ensure ticks) ensure delay = leb ensure (ticks + 1)
+reachedBy (Timer.Delay ticks) ensure delay = leb delay (ticks + 1)
 
 -- no transceiver, a transceiver, a transceiver with PN
 abbrev pub outfitOf : Transceiver → Bool → Outfit
@@ -102,5 +71,6 @@ outfitOf (Transceiver.Present id) partial = cond partial Outfit.Partial Outfit.F
 -- what a tick does with a network: "some controller's last answer is a refusal" is the refusal present
 unfoldable pub moveOf : Network → State → Move
 moveOf n s =
-    decision (s .step) (s .wanted) (isDone n s) (any isRefusal (heardOf n s)) (reachedBy (s .step) (n .ensure) (delayOf n (s .count)))
+    decision (s .step) (s .wanted) (isDone n s) (any isRefusal (heardOf n s))
+    (reachedBy (timerOf (s .step)) (n .ensure) (delayOf n (s .count)))
     (outfitOf (n .transceiver) (n .partial))

@@ -1,6 +1,5 @@
 -- The record of a network, from document 01, section "The fifteen steps", at the start and after a request.
 -- A record has one form: in a step that asks nothing, asked is no and nothing is kept as answered; unused slots are pending.
-use Prim.Native.Nat.{ℕ}
 use mathlib.Core.List.{List}
 use mathlib.Core.Bool.{Bool, true, false}
 use lib.ListN.{take, replicate}
@@ -11,17 +10,17 @@ use Rattle.steps.specs.declared.Step.{Step}
 use Rattle.steps.specs.Steps.{isUp}
 use Rattle.steps.specs.Decision.{byMode}
 use Rattle.steps.specs.After.{firstDown}
-use Rattle.network.specs.declared.Answer.{Answer}
+use Rattle.network.specs.declared.LastAnswer.{LastAnswer}
 use Rattle.network.specs.declared.Heard.{Heard}
 use Rattle.network.specs.declared.State.{State}
 
 -- the slot of a controller whose last answer is this
-abbrev pub heard : Answer → Heard
+abbrev pub heard : LastAnswer → Heard
 heard answer = record { answer = answer }
 
 -- no controller has answered
 abbrev pub blankAnswers : List Heard
-blankAnswers = replicate mostControllers (heard Answer.Pending)
+blankAnswers = replicate mostControllers (heard LastAnswer.Pending)
 
 -- the last answers of the network's controllers, in the order of the sheet
 abbrev pub heardOf : Network → State → List Heard

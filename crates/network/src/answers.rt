@@ -1,6 +1,6 @@
 // Answers of controllers, and reports of a transceiver.
-use crate::Answer;
 use crate::Heard;
+use crate::LastAnswer;
 use crate::Report;
 use crate::State;
 use settings::Network;
@@ -53,26 +53,27 @@ pub fn takes(state: State, report: Report) -> bool
     false
 }
 
-fn answer_of(ok: bool) -> Answer
+fn answer_of(ok: bool) -> LastAnswer
     ensures { λ r. ⌜ r ≡ answerOf ok ⌝ }
 {
-    if ok { Answer::Okay } else { Answer::Refused }
+    if ok {
+        LastAnswer::Okay
+    } else {
+        LastAnswer::Refused
+    }
 }
 
 // The record with this answer of the controller.
 pub fn with_answer(network: Network, state: State, id: u8, ok: bool) -> State
     ensures { λ r. ⌜ r ≡ afterAnswer network state id ok ⌝ }
 {
-    let count = network.count;
     let ids = network.controllers;
+    let used = Network::in_use(network.count);
     let heard = Heard {
         answer: answer_of(ok),
     };
     let mut i: u8 = 0;
-    while (i as usize) < Network::MOST_CONTROLLERS {
-        if count <= i {
-            return state;
-        }
+    while i < used {
         if ids[i as usize] == id {
             let mut next = state;
             next.answers[i as usize] = heard;

@@ -1,5 +1,7 @@
 // A bus-off of one of the network's controllers.
 use crate::Hit;
+use crate::Part;
+use crate::Reply;
 use crate::State;
 use crate::Struck;
 use records::Mode;
@@ -8,38 +10,18 @@ use steps::Step;
 ghost use mathlib.Core.Path.{_≡_};
 ghost use Rattle.handing.specs.Handing.{recovery};
 ghost use Rattle.records.specs.Wrote.{Room, Wrote};
-ghost use Rattle.network.specs.BusOff.{isStarting, hitOf, raised, countedIn, madeAnew, afterHit, hitRecords};
+ghost use Rattle.network.specs.BusOff.{hitOf, raised, countedIn, madeAnew, hitRecords};
+ghost use Rattle.network.specs.Parts.{hitPart};
 
-// Step 3.
-fn is_starting(step: Step) -> bool
-    ensures { λ r. ⌜ r ≡ isStarting step ⌝ }
-{
-    match step {
-        Step::NoCommunication => false,
-        Step::TransceiverNormal => false,
-        Step::ControllersStopped => false,
-        Step::ControllersStarted => true,
-        Step::Checking(_) => false,
-        Step::Full => false,
-        Step::Restarting => false,
-        Step::Waiting(_) => false,
-        Step::Silent => false,
-        Step::ClearWake => false,
-        Step::DownStopped => false,
-        Step::TransceiverStandby => false,
-        Step::ControllersSleep => false,
-        Step::CheckWake => false,
-        Step::CheckWakeAgain => false,
-    }
-}
-
+// In an up step recovery begins; in step 3, which asks the controllers to start, the step begins anew.
 fn hit_of(step: Step) -> Hit
     ensures { λ r. ⌜ r ≡ hitOf step ⌝ }
 {
     if step.is_up() {
         return Hit::Recover;
     }
-    if is_starting(step) {
+    let ask = step.asks();
+    if ask.is_to_start() {
         return Hit::Restart;
     }
     Hit::NotTaken
@@ -79,50 +61,39 @@ fn anew(state: State, step: Step, told: Mode, count: u8) -> State
     }
 }
 
-// The record after a bus-off.
-fn after_hit(state: State, hit: Hit) -> State
-    ensures { λ r. ⌜ r ≡ afterHit state hit ⌝ }
+// What the network makes of it: the record after it, where the step takes it.
+fn hit_part(state: State, hit: Hit) -> Part
+    ensures { λ r. ⌜ r ≡ hitPart state hit ⌝ }
 {
     let step = state.step;
     let told = state.told;
     match hit {
-        Hit::Recover => anew(
+        Hit::Recover => Part::take(anew(
             state,
             Step::Restarting,
             Mode::Silent,
             count_in(step, state.count),
-        ),
-        Hit::Restart => anew(state, step, told, state.count),
-        Hit::NotTaken => state,
+        )),
+        Hit::Restart => Part::take(anew(state, step, told, state.count)),
+        Hit::NotTaken => Part::decline(state, Reply::NotTaken),
     }
 }
 
-// A bus-off: what it does, the record after it, and its records from the buffer's front.
+// A bus-off: what the network makes of it, and its records from the buffer's front.
 pub fn strike(network: Network, state: State, out: &mut [u8]) -> Struck
     requires { ⌜ Room (now out) 0 (recovery (network .handle)) ⌝ }
-    ensures { λ r. ⌜ (r .hit ≡ hitOf (state .step)) × (r .state ≡ afterHit state (hitOf (state .step))) × Wrote (now (out .entry)) (now (out .exit)) 0 (r .count) (hitRecords network (hitOf (state .step))) ⌝ }
+    ensures { λ r. ⌜ (r .part ≡ hitPart state (hitOf (state .step)))
+        × Wrote (now (out .entry)) (now (out .exit)) 0 (r .count) (hitRecords network (hitOf (state .step))) ⌝ }
 {
     let step = state.step;
     let hit = hit_of(step);
-    let after = after_hit(state, hit);
+    let part = hit_part(state, hit);
     match hit {
         Hit::Recover => {
             let count = handing::put_recovery(out, network.handle);
-            Struck {
-                hit,
-                state: after,
-                count,
-            }
+            Struck { part, count }
         }
-        Hit::Restart => Struck {
-            hit,
-            state: after,
-            count: 0,
-        },
-        Hit::NotTaken => Struck {
-            hit,
-            state: after,
-            count: 0,
-        },
+        Hit::Restart => Struck { part, count: 0 },
+        Hit::NotTaken => Struck { part, count: 0 },
     }
 }

@@ -2,14 +2,16 @@
 mod answers;
 mod bus_off;
 mod moving;
+mod parts;
 mod ticking;
 
 ghost use mathlib.Core.Path.{_≡_};
 ghost use Rattle.network.specs.State.{blankAnswers, started, wants, mayWant};
-pub use answers::takes;
-pub use answers::with_answer;
-pub use answers::with_report;
+ghost use Rattle.network.specs.Parts.{taken, declined};
 pub use bus_off::strike;
+pub use parts::answer_part;
+pub use parts::report_part;
+pub use parts::request_part;
 use records::Mode;
 use settings::Network;
 use steps::Step;
@@ -17,14 +19,14 @@ pub use ticking::rests;
 pub use ticking::tick;
 
 // A controller's last answer in this step.
-pub enum Answer {
+pub enum LastAnswer {
     Pending,
     Okay,
     Refused,
 }
 
 pub struct Heard {
-    pub answer: Answer,
+    pub answer: LastAnswer,
 }
 
 // The record of a network. The settings stand apart from it.
@@ -54,10 +56,26 @@ pub enum Hit {
     NotTaken,
 }
 
-// A network after a bus-off, and the number of records handed out.
-pub struct Struck {
-    pub hit: Hit,
+// What a network replies to a call that names it.
+pub enum Reply {
+    Taken,
+    // 21: a mode or ok value out of its range.
+    OutOfRange,
+    // 08: silent asked for in a step that is not up.
+    NotUp,
+    // 22: an answer or bus-off that the step does not take.
+    NotTaken,
+}
+
+// What a network makes of such a call: its reply, and its record after the call.
+pub struct Part {
+    pub reply: Reply,
     pub state: State,
+}
+
+// What it makes of a bus-off, and the number of records handed out.
+pub struct Struck {
+    pub part: Part,
     pub count: usize,
 }
 
@@ -69,6 +87,32 @@ pub enum Report {
     Checked,
 }
 
+impl Report {
+    // The largest number of a mode, and the number that says ok.
+    pub const MOST_MODE: u8 = 2;
+
+    pub const OK: u8 = 1;
+}
+
+impl Part {
+    // Taken: the record is new.
+    pub fn take(state: State) -> Part
+        ensures { λ r. ⌜ r ≡ taken state ⌝ }
+    {
+        Part {
+            reply: Reply::Taken,
+            state,
+        }
+    }
+
+    // Refused: the record stays as it was.
+    pub fn decline(state: State, reply: Reply) -> Part
+        ensures { λ r. ⌜ r ≡ declined state reply ⌝ }
+    {
+        Part { reply, state }
+    }
+}
+
 impl State {
     // The most bus-offs that are counted.
     pub const MOST_BUS_OFFS: u8 = 255;
@@ -78,7 +122,7 @@ impl State {
         ensures { λ r. ⌜ r ≡ blankAnswers ⌝ }
     {
         let pending = Heard {
-            answer: Answer::Pending,
+            answer: LastAnswer::Pending,
         };
         [pending; Network::MOST_CONTROLLERS]
     }

@@ -23,7 +23,7 @@ fn told_after(to: Move, told: Mode) -> Mode
     match to {
         Move::Stay => told,
         Move::AskAgain => told,
-        Move::Count => told,
+        Move::Count(_) => told,
         Move::EnterFull => Mode::Full,
         Move::EnterSilent => Mode::Silent,
         Move::Pass => told,
@@ -41,7 +41,7 @@ fn count_after(to: Move, count: u8) -> u8
     match to {
         Move::Stay => count,
         Move::AskAgain => count,
-        Move::Count => count,
+        Move::Count(_) => count,
         Move::EnterFull => count,
         Move::EnterSilent => count,
         Move::Pass => 0,
@@ -59,7 +59,7 @@ fn asks_after(to: Move, asked: bool) -> bool
     match to {
         Move::Stay => asked,
         Move::AskAgain => true,
-        Move::Count => asked,
+        Move::Count(_) => asked,
         Move::EnterFull => false,
         Move::EnterSilent => false,
         Move::Pass => false,
@@ -77,7 +77,7 @@ fn keeps_answers(to: Move) -> bool
     match to {
         Move::Stay => true,
         Move::AskAgain => true,
-        Move::Count => true,
+        Move::Count(_) => true,
         Move::EnterFull => false,
         Move::EnterSilent => false,
         Move::Pass => false,

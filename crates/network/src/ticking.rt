@@ -1,6 +1,6 @@
 // One network's tick: the conditions, the decision, and what follows from it.
-use crate::Answer;
 use crate::Heard;
+use crate::LastAnswer;
 use crate::State;
 use crate::Ticked;
 use crate::moving::after_move;
@@ -10,12 +10,13 @@ use settings::Transceiver;
 use steps::Ask;
 use steps::Move;
 use steps::Outfit;
-use steps::Step;
+use steps::Phase;
+use steps::Timer;
 ghost use mathlib.Core.Path.{_≡_};
 ghost use Rattle.lists.specs.Lists.{any, every};
 ghost use Rattle.records.specs.Wrote.{Room, Wrote};
 ghost use Rattle.network.specs.State.{heardOf};
-ghost use Rattle.network.specs.Rules.{isOkay, isRefusal, isDone, isSleep, isLong, delayOf, reachedBy, outfitOf, moveOf};
+ghost use Rattle.network.specs.Rules.{isOkay, isRefusal, isDone, isLong, delayOf, reachedBy, outfitOf, moveOf};
 ghost use Rattle.network.specs.Moving.{tickState, tickRecords};
 ghost use Rattle.network.specs.Rest.{restsIn};
 
@@ -26,9 +27,9 @@ fn is_okay(heard: Heard) -> bool
 {
     let answer = heard.answer;
     match answer {
-        Answer::Pending => false,
-        Answer::Okay => true,
-        Answer::Refused => false,
+        LastAnswer::Pending => false,
+        LastAnswer::Okay => true,
+        LastAnswer::Refused => false,
     }
 }
 
@@ -37,9 +38,9 @@ fn is_refusal(heard: Heard) -> bool
 {
     let answer = heard.answer;
     match answer {
-        Answer::Pending => false,
-        Answer::Okay => false,
-        Answer::Refused => true,
+        LastAnswer::Pending => false,
+        LastAnswer::Okay => false,
+        LastAnswer::Refused => true,
     }
 }
 
@@ -47,13 +48,10 @@ fn is_refusal(heard: Heard) -> bool
 fn all_okay(network: Network, state: State) -> bool
     ensures { λ r. ⌜ r ≡ every isOkay (heardOf network state) ⌝ }
 {
-    let count = network.count;
     let answers = state.answers;
+    let used = Network::in_use(network.count);
     let mut i: u8 = 0;
-    while (i as usize) < Network::MOST_CONTROLLERS {
-        if count <= i {
-            return true;
-        }
+    while i < used {
         let heard = answers[i as usize];
         if is_okay(heard) {
             i += 1;
@@ -68,13 +66,10 @@ fn all_okay(network: Network, state: State) -> bool
 fn any_refused(network: Network, state: State) -> bool
     ensures { λ r. ⌜ r ≡ any isRefusal (heardOf network state) ⌝ }
 {
-    let count = network.count;
     let answers = state.answers;
+    let used = Network::in_use(network.count);
     let mut i: u8 = 0;
-    while (i as usize) < Network::MOST_CONTROLLERS {
-        if count <= i {
-            return false;
-        }
+    while i < used {
         let heard = answers[i as usize];
         if is_refusal(heard) {
             return true;
@@ -103,29 +98,6 @@ fn is_done(network: Network, state: State) -> bool
     false
 }
 
-// Step 12, the only one in which a refusal decides.
-fn is_sleep(step: Step) -> bool
-    ensures { λ r. ⌜ r ≡ isSleep step ⌝ }
-{
-    match step {
-        Step::NoCommunication => false,
-        Step::TransceiverNormal => false,
-        Step::ControllersStopped => false,
-        Step::ControllersStarted => false,
-        Step::Checking(_) => false,
-        Step::Full => false,
-        Step::Restarting => false,
-        Step::Waiting(_) => false,
-        Step::Silent => false,
-        Step::ClearWake => false,
-        Step::DownStopped => false,
-        Step::TransceiverStandby => false,
-        Step::ControllersSleep => true,
-        Step::CheckWake => false,
-        Step::CheckWakeAgain => false,
-    }
-}
-
 // The long delay: the count is above the threshold.
 fn is_long(threshold: u8, count: u8) -> bool
     ensures { λ r. ⌜ r ≡ isLong threshold count ⌝ }
@@ -143,25 +115,13 @@ fn delay_of(network: Network, count: u8) -> u16
 }
 
 // The tick count reaches its time with this tick.
-fn is_reached(step: Step, ensure: u16, delay: u16) -> bool
-    ensures { λ r. ⌜ r ≡ reachedBy step ensure delay ⌝ }
+fn is_reached(timer: Timer, ensure: u16, delay: u16) -> bool
+    ensures { λ r. ⌜ r ≡ reachedBy timer ensure delay ⌝ }
 {
-    match step {
-        Step::NoCommunication => false,
-        Step::TransceiverNormal => false,
-        Step::ControllersStopped => false,
-        Step::ControllersStarted => false,
-        Step::Checking(ticks) => (ensure as u32) <= (ticks as u32) + 1,
-        Step::Full => false,
-        Step::Restarting => false,
-        Step::Waiting(ticks) => (delay as u32) <= (ticks as u32) + 1,
-        Step::Silent => false,
-        Step::ClearWake => false,
-        Step::DownStopped => false,
-        Step::TransceiverStandby => false,
-        Step::ControllersSleep => false,
-        Step::CheckWake => false,
-        Step::CheckWakeAgain => false,
+    match timer {
+        Timer::Idle => false,
+        Timer::Ensure(ticks) => (ensure as u32) <= (ticks as u32) + 1,
+        Timer::Delay(ticks) => (delay as u32) <= (ticks as u32) + 1,
     }
 }
 
@@ -178,18 +138,20 @@ fn outfit_of(transceiver: Transceiver, partial: bool) -> Outfit
     }
 }
 
-// What this tick does. Refusals are looked for only where they decide.
+// What this tick does. Refusals are looked for only where they decide, in step 12.
 fn choose(network: Network, state: State) -> Move
     ensures { λ r. ⌜ r ≡ moveOf network state ⌝ }
 {
     let step = state.step;
     let wanted = state.wanted;
+    let ask = step.asks();
+    let timer = step.timer();
     let transceiver = network.transceiver;
     let done = is_done(network, state);
     let delay = delay_of(network, state.count);
-    let reached = is_reached(step, network.ensure, delay);
+    let reached = is_reached(timer, network.ensure, delay);
     let outfit = outfit_of(transceiver, network.partial);
-    if is_sleep(step) {
+    if ask.is_to_sleep() {
         let refused = any_refused(network, state);
         return steps::decide(step, wanted, done, refused, reached, outfit);
     }
@@ -202,34 +164,26 @@ pub fn rests(state: State) -> bool
 {
     let step = state.step;
     let wanted = state.wanted;
-    match step {
-        Step::NoCommunication => match wanted {
+    match step.phase() {
+        Phase::Off => match wanted {
             Mode::No => true,
             Mode::Silent => false,
             Mode::Full => false,
         },
-        Step::TransceiverNormal => false,
-        Step::ControllersStopped => false,
-        Step::ControllersStarted => false,
-        Step::Checking(_) => false,
-        Step::Full => match wanted {
+        Phase::Rising => false,
+        Phase::Checking => false,
+        Phase::Full => match wanted {
             Mode::No => false,
             Mode::Silent => false,
             Mode::Full => true,
         },
-        Step::Restarting => false,
-        Step::Waiting(_) => false,
-        Step::Silent => match wanted {
+        Phase::Recovering => false,
+        Phase::Silent => match wanted {
             Mode::No => false,
             Mode::Silent => true,
             Mode::Full => false,
         },
-        Step::ClearWake => false,
-        Step::DownStopped => false,
-        Step::TransceiverStandby => false,
-        Step::ControllersSleep => false,
-        Step::CheckWake => false,
-        Step::CheckWakeAgain => false,
+        Phase::Falling => false,
     }
 }
 

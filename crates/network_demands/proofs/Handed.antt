@@ -1,11 +1,6 @@
--- What the words of demand 3 read off the records of each move. Assumes nothing.
-use Prim.Native.Nat.{ℕ, _<_}
-use native.Mathlib.Omega.{arith}
-use borrow.Author.Tests.{eqb-true, eqb-false, eq-eqb, ne-eqb}
-use mathlib.Core.Path.{_≡_, refl, sym, ap, _∙_}
-use mathlib.Core.List.{List, [], _∷_, _++_, map}
-use mathlib.Core.Bool.{Bool, true, false, _&&_, _||_, cond, or-false}
-use lib.Dec.{eqb}
+-- What the words of demand 3 read off the records of each move.
+use Rattle.lists.proofs.Basics.{ℕ, _<_, arith, eqb-true, eqb-false, eq-eqb, ne-eqb, _≡_, refl, sym, ap, _∙_, List, [], _∷_, _++_, map, Bool, true}
+use Rattle.lists.proofs.Basics.{false, _&&_, _||_, cond, or-false, eqb}
 use Rattle.lists.specs.Lists.{any}
 use Rattle.lists.proofs.Any.{any-append}
 use Rattle.records.specs.declared.Record.{Record}
@@ -13,7 +8,7 @@ use Rattle.records.specs.declared.ControllerMode.{ControllerMode}
 use Rattle.records.specs.declared.PduMode.{PduMode}
 use Rattle.records.specs.declared.Mode.{Mode}
 use Rattle.records.specs.declared.Notice.{Notice}
-use Rattle.records.specs.declared.Event.{Event}
+use Rattle.records.specs.declared.EventStatus.{EventStatus}
 use Rattle.records.specs.Records.{modeNumber, tells, notes, reports}
 use Rattle.settings.specs.declared.Network.{Network}
 use Rattle.settings.specs.Settings.{controllersOf, listed, member}
@@ -48,7 +43,8 @@ none-of-each p f h [] = refl
 none-of-each p f h (x ∷ l) = rw (h x) (none-of-each p f h l)
 
 -- where no such record is of kind 6, they tell nothing
-each-tells-nothing : (n : Network) (f : ℕ → Record) → ((x : ℕ) → eqb 6 (f x .kind) ≡ false) → (l : List ℕ) (mode : ℕ) → toldBy n (map f l) mode ≡ mode
+each-tells-nothing : (n : Network) (f : ℕ → Record) →
+    ((x : ℕ) → eqb 6 (f x .kind) ≡ false) → (l : List ℕ) (mode : ℕ) → toldBy n (map f l) mode ≡ mode
 unfolding toldBy
 each-tells-nothing n f h [] mode = refl
 each-tells-nothing n f h (x ∷ l) mode =
@@ -68,11 +64,12 @@ asks-each-to-start n c = named (controllersOf n)
     named [] = refl
     named (x ∷ l) = rw (eqb-swap c x, named l) refl
 
--- ---- by what a move hands out with a handle: entering full, entering silent, the all-clear, going down, entering no communication; all others nothing
+-- ---- by what a move hands out with a handle: entering full, entering silent, the all-clear, going down, entering no communication; all others
+-- nothing
 abbrev handsBy : Bool → Bool → Bool → Bool → Bool → Move → Bool
 handsBy full silent passed down ended Stay = false
 handsBy full silent passed down ended AskAgain = false
-handsBy full silent passed down ended Count = false
+handsBy full silent passed down ended (Count next) = false
 handsBy full silent passed down ended EnterFull = full
 handsBy full silent passed down ended EnterSilent = silent
 handsBy full silent passed down ended Pass = passed
@@ -101,41 +98,50 @@ module _ (n : Network) where
     requests-hand-none : (ask : Ask) → any (is kind target argument) (requests ask n) ≡ false
     unfolding requests any
     requests-hand-none Ask.Nothing = refl
-    requests-hand-none (Ask.Controllers mode) = none-of-each (is kind target argument) (roundRecord (Round.Request mode)) (λ x. rw (not-kind 1 (omega arith)) refl) (controllersOf n)
-    requests-hand-none (Ask.Transceiver mode) = none-of-each (is kind target argument) (errandRecord (Errand.Mode mode)) (λ x. rw (not-kind 2 (omega arith)) refl) (listed (n .transceiver))
-    requests-hand-none Ask.ClearWake = none-of-each (is kind target argument) (errandRecord Errand.Clear) (λ x. rw (not-kind 4 (omega arith)) refl) (listed (n .transceiver))
-    requests-hand-none Ask.CheckWake = none-of-each (is kind target argument) (errandRecord Errand.Check) (λ x. rw (not-kind 5 (omega arith)) refl) (listed (n .transceiver))
+    requests-hand-none (Ask.Controllers mode) =
+        none-of-each (is kind target argument) (roundRecord (Round.Request mode)) (λ x. rw (not-kind 1 (omega arith)) refl) (controllersOf n)
+    requests-hand-none (Ask.Transceiver mode) =
+        none-of-each (is kind target argument) (errandRecord (Errand.Mode mode)) (λ x. rw (not-kind 2 (omega arith)) refl) (listed (n .transceiver))
+    requests-hand-none Ask.ClearWake =
+        none-of-each (is kind target argument) (errandRecord Errand.Clear) (λ x. rw (not-kind 4 (omega arith)) refl) (listed (n .transceiver))
+    requests-hand-none Ask.CheckWake =
+        none-of-each (is kind target argument) (errandRecord Errand.Check) (λ x. rw (not-kind 5 (omega arith)) refl) (listed (n .transceiver))
 
     -- PDU modes are of no such kind
     pdu-hands-none : (pdu : PduMode) → any (is kind target argument) (map (roundRecord (Round.Pdu pdu)) (controllersOf n)) ≡ false
-    pdu-hands-none pdu = none-of-each (is kind target argument) (roundRecord (Round.Pdu pdu)) (λ x. rw (not-kind 3 (omega arith)) refl) (controllersOf n)
+    pdu-hands-none pdu =
+        none-of-each (is kind target argument) (roundRecord (Round.Pdu pdu)) (λ x. rw (not-kind 3 (omega arith)) refl) (controllersOf n)
 
     -- entering hands out two of them
-    entering-hands : (pdu : PduMode) (mode : Mode) (notice : Notice)
-        → any (is kind target argument) (entering n pdu mode notice) ≡ is kind target argument (tells (n .handle) mode) || is kind target argument (notes (n .handle) notice)
+    entering-hands : (pdu : PduMode) (mode : Mode) (notice : Notice) → any (is kind target argument)
+        (entering n pdu mode notice) ≡ is kind target argument (tells (n .handle) mode) || is kind target argument (notes (n .handle) notice)
     unfolding entering any
     entering-hands pdu mode notice =
         any-append (is kind target argument) (map (roundRecord (Round.Pdu pdu)) (controllersOf n)) _
         ∙ rw (pdu-hands-none pdu) (ap (λ (b : Bool). is kind target argument (tells (n .handle) mode) || b) (or-false _))
 
     -- going down hands out one, or two
-    going-down-hands : (told : Mode) → any (is kind target argument) (goingDown n told) ≡ any (is kind target argument) (downNotices (n .handle) told)
+    going-down-hands : (told : Mode) →
+        any (is kind target argument) (goingDown n told) ≡ any (is kind target argument) (downNotices (n .handle) told)
     unfolding goingDown
     going-down-hands told =
-        any-append (is kind target argument) (downNotices (n .handle) told) _ ∙ rw (requests-hand-none (asksFor (firstDown (n .partial)))) (or-false _)
+        any-append (is kind target argument) (downNotices (n .handle) told) _
+        ∙ rw (requests-hand-none (asksFor (firstDown (n .partial)))) (or-false _)
 
   -- ---- what is told
   requests-tell-nothing : (ask : Ask) (mode : ℕ) → toldBy n (requests ask n) mode ≡ mode
   unfolding requests toldBy
   requests-tell-nothing Ask.Nothing mode = refl
   requests-tell-nothing (Ask.Controllers asked) mode = each-tells-nothing n (roundRecord (Round.Request asked)) (λ x. refl) (controllersOf n) mode
-  requests-tell-nothing (Ask.Transceiver asked) mode = each-tells-nothing n (errandRecord (Errand.Mode asked)) (λ x. refl) (listed (n .transceiver)) mode
+  requests-tell-nothing (Ask.Transceiver asked) mode =
+      each-tells-nothing n (errandRecord (Errand.Mode asked)) (λ x. refl) (listed (n .transceiver)) mode
   requests-tell-nothing Ask.ClearWake mode = each-tells-nothing n (errandRecord Errand.Clear) (λ x. refl) (listed (n .transceiver)) mode
   requests-tell-nothing Ask.CheckWake mode = each-tells-nothing n (errandRecord Errand.Check) (λ x. refl) (listed (n .transceiver)) mode
 
   entering-tells : (pdu : PduMode) (mode : Mode) (notice : Notice) (before : ℕ) → toldBy n (entering n pdu mode notice) before ≡ modeNumber mode
   unfolding entering toldBy
-  entering-tells pdu mode notice before = tells-append n (map (roundRecord (Round.Pdu pdu)) (controllersOf n)) _ before ∙ rw (eqb-same (n .handle)) refl
+  entering-tells pdu mode notice before =
+      tells-append n (map (roundRecord (Round.Pdu pdu)) (controllersOf n)) _ before ∙ rw (eqb-same (n .handle)) refl
 
   notices-tell : (told : Mode) → toldBy n (downNotices (n .handle) told) (modeNumber told) ≡ modeNumber (toldAfter GoDown told)
   unfolding downNotices toldBy
@@ -148,7 +154,7 @@ module _ (n : Network) where
   unfolding moveRecords enteringFull enteringSilent goingDown toldBy
   move-tells step told Stay = refl
   move-tells step told AskAgain = requests-tell-nothing (asksFor step) (modeNumber told)
-  move-tells step told Count = refl
+  move-tells step told (Count next) = refl
   move-tells step told EnterFull = entering-tells PduMode.Online Mode.Full Notice.Full (modeNumber told)
   move-tells step told EnterSilent = entering-tells PduMode.TxOffline Mode.Silent Notice.Silent (modeNumber told)
   move-tells step told Pass = refl
@@ -161,17 +167,17 @@ module _ (n : Network) where
 
   -- ---- which move hands out a record with the handle
   -- one of kinds 6 to 8, by its five places
-  module _ (kind argument : ℕ) (h : 5 < kind) (full silent passed down ended : Bool)
-      (at-full : is kind (n .handle) argument (tells (n .handle) Mode.Full) || is kind (n .handle) argument (notes (n .handle) Notice.Full) ≡ full)
-      (at-silent : is kind (n .handle) argument (tells (n .handle) Mode.Silent) || is kind (n .handle) argument (notes (n .handle) Notice.Silent) ≡ silent)
-      (at-passed : any (is kind (n .handle) argument) (reports (n .handle) Event.Passed ∷ []) ≡ passed)
-      (at-down : (told : Mode) → any (is kind (n .handle) argument) (downNotices (n .handle) told) ≡ down)
-      (at-end : any (is kind (n .handle) argument) (tells (n .handle) Mode.No ∷ []) ≡ ended) where
-    move-hands : (step : Step) (told : Mode) (m : Move) → any (is kind (n .handle) argument) (moveRecords n step told m) ≡ handsBy full silent passed down ended m
+  module _ (kind argument : ℕ) (h : 5 < kind) (full silent passed down ended : Bool) (at-full : is kind (n .handle) argument
+      (tells (n .handle) Mode.Full) || is kind (n .handle) argument (notes (n .handle) Notice.Full) ≡ full) (at-silent : is kind (n .handle) argument
+      (tells (n .handle) Mode.Silent) || is kind (n .handle) argument (notes (n .handle) Notice.Silent) ≡ silent) (at-passed : any (is kind
+      (n .handle) argument) (reports (n .handle) EventStatus.Passed ∷ []) ≡ passed) (at-down : (told : Mode) → any (is kind (n .handle) argument)
+      (downNotices (n .handle) told) ≡ down) (at-end : any (is kind (n .handle) argument) (tells (n .handle) Mode.No ∷ []) ≡ ended) where
+    move-hands : (step : Step) (told : Mode) (m : Move) →
+        any (is kind (n .handle) argument) (moveRecords n step told m) ≡ handsBy full silent passed down ended m
     unfolding moveRecords enteringFull enteringSilent any
     move-hands step told Stay = refl
     move-hands step told AskAgain = requests-hand-none kind (n .handle) argument h (asksFor step)
-    move-hands step told Count = refl
+    move-hands step told (Count next) = refl
     move-hands step told EnterFull = entering-hands kind (n .handle) argument h PduMode.Online Mode.Full Notice.Full ∙ at-full
     move-hands step told EnterSilent = entering-hands kind (n .handle) argument h PduMode.TxOffline Mode.Silent Notice.Silent ∙ at-silent
     move-hands step told Pass = at-passed

@@ -1,43 +1,42 @@
 -- Demand 3, second sentence: after a bus-off while up, the right delay and two ticks have passed before full is told again. First, what a network's
--- record keeps of a history. Assumes nothing.
-use Prim.Native.Nat.{ℕ, suc, _+_, _≤_, min}
-use native.Mathlib.Omega.{arith}
-use borrow.Author.Tests.{ltb-true, ltb-false, lt-ltb, le-ltb}
-use mathlib.Core.Path.{_≡_, refl, sym, ap, subst, _∙_}
-use mathlib.Core.List.{[], _∷_, _++_}
-use mathlib.Core.Bool.{Bool, true, false, cond, _&&_, and-false, false≢true, true≢false, or-false}
-use lib.Dec.{ltb, eqb}
+-- record keeps of a history.
+use Rattle.lists.proofs.Basics.{ℕ, suc, _+_, _≤_, min, arith, ltb-true, ltb-false, lt-ltb, le-ltb, _≡_, refl, sym, ap, _∙_, [], _∷_, _++_, Bool}
+use Rattle.lists.proofs.Basics.{true, false, cond, and-false, false≢true, true≢false, or-false, ltb}
 use Rattle.lists.specs.Lists.{any}
 use Rattle.lists.proofs.Any.{any-append-left, any-append-right}
 use Rattle.records.specs.declared.Mode.{Mode}
 use Rattle.records.specs.Records.{modeNumber}
 use Rattle.settings.specs.declared.Network.{Network}
 use Rattle.steps.specs.declared.Step.{Step}
-use Rattle.steps.specs.declared.Step.the-variants.{NoCommunication, TransceiverNormal, ControllersStopped, ControllersStarted, Checking, Full, Restarting, Waiting, Silent, ClearWake, DownStopped, TransceiverStandby, ControllersSleep, CheckWake, CheckWakeAgain}
+use Rattle.steps.specs.declared.Step.the-variants.{NoCommunication, TransceiverNormal, ControllersStopped, ControllersStarted}
+use Rattle.steps.specs.declared.Step.the-variants.{Checking, Full, Restarting, Waiting, Silent}
+use Rattle.steps.specs.declared.Step.the-variants.{ClearWake, DownStopped, TransceiverStandby, ControllersSleep, CheckWake, CheckWakeAgain}
 use Rattle.steps.specs.declared.Outfit.{Outfit}
 use Rattle.steps.specs.declared.Move.{Move}
 use Rattle.steps.specs.declared.Move.the-variants.{Stay, AskAgain, Count, EnterFull, EnterSilent, Pass, Wait, GoDown, EnterNoCommunication, Enter}
-use Rattle.steps.specs.Decision.{decision}
-use Rattle.steps.specs.After.{stepAfter, risen}
-use Rattle.handing.specs.Handing.{moveRecords, recovery}
+use Rattle.steps.specs.Decision.{risen, decision}
+use Rattle.steps.specs.After.{stepAfter}
+use Rattle.handing.specs.Handing.{recovery}
 use Rattle.network.specs.declared.State.{State}
 use Rattle.network.specs.State.{started}
 use Rattle.network.specs.Rules.{isLong, delayOf}
 use Rattle.network.specs.Moving.{toldAfter, countAfter, asksAfter, afterMove}
-use Rattle.network.specs.BusOff.{raised}
-use Rattle.network_demands.specs.Calls.{Call, busOff, tick, Entry, History}
-use Rattle.network_demands.specs.Words.{is, since, never, tally, isBusOff, isRequest, modeAsked, ticked, fell, fellUp, shut, cleared, toldBy, told, wanted, delayAt, Delayed}
-use Rattle.network_demands.specs.Own.{Part, partOf, stateOf, Ran, Fit, recoveredPart, tickPart, finished, reaches, decides}
-use Rattle.network_demands.proofs.Views.{split, entry, as-ruled, Plain, plainPart, by-part}
+use Rattle.network.specs.BusOff.{raised, madeAnew, afterHit}
+use Rattle.network.specs.Parts.{Sight, aTick, aBusOff}
+use Rattle.lists.proofs.Tests.{split}
+use Rattle.network_demands.specs.Words.{is, Seen, OwnHistory, since, never, tally, ticked, fell, fellUp, shut, cleared, toldBy, told, wanted}
+use Rattle.network_demands.specs.Words.{isBusOff, wantedBy, delayAt, Delayed}
+use Rattle.network_demands.specs.Own.{finished, reaches, decides, tickAfter, tickHands, recovered, played, stateOf, Fits, Ran, Fit}
+use Rattle.network_demands.proofs.Views.{seen, Plain, plainState, by-part}
 use Rattle.network_demands.proofs.Tests.{finished-asked, reaches-passed}
 use Rattle.network_demands.proofs.Handed.{eqb-same, isGoDown, isPass, move-tells, move-shuts, move-clears}
 
 -- ---- what is said of every entry is said of the first and of the rest
-pub never-first : (p : Entry → Bool) (e : Entry) (h : History) → never p (e ∷ h) → p e ≡ false
+pub never-first : (p : Seen → Bool) (e : Seen) (h : OwnHistory) → never p (e ∷ h) → p e ≡ false
 unfolding any
 never-first p e h f = sym (or-false (p e)) ∙ any-append-left p (e ∷ []) h f
 
-pub never-rest : (p : Entry → Bool) (e : Entry) (h : History) → never p (e ∷ h) → never p h
+pub never-rest : (p : Seen → Bool) (e : Seen) (h : OwnHistory) → never p (e ∷ h) → never p h
 never-rest p e h f = any-append-right p (e ∷ []) h f
 
 -- ---- the all-clear and the bus-off while up, in the records
@@ -55,21 +54,21 @@ unfolding any recovery
 recovery-clears-not n = refl
 
 -- ---- the bus-offs while up since the last all-clear
-abbrev pub falls : Network → History → ℕ
+abbrev pub falls : Network → OwnHistory → ℕ
 falls n h = tally (fellUp n) (since (cleared n) h)
 
 -- an entry that is no all-clear and no bus-off while up leaves their number alone
-falls-same : (n : Network) (e : Entry) (h : History) → cleared n e ≡ false → fellUp n e ≡ false → falls n (e ∷ h) ≡ falls n h
+falls-same : (n : Network) (e : Seen) (h : OwnHistory) → cleared n e ≡ false → fellUp n e ≡ false → falls n (e ∷ h) ≡ falls n h
 unfolding since tally
 falls-same n e h p q = rw (p, q) refl
 
 -- a bus-off while up is one more
-falls-more : (n : Network) (e : Entry) (h : History) → cleared n e ≡ false → fellUp n e ≡ true → falls n (e ∷ h) ≡ suc (falls n h)
+falls-more : (n : Network) (e : Seen) (h : OwnHistory) → cleared n e ≡ false → fellUp n e ≡ true → falls n (e ∷ h) ≡ suc (falls n h)
 unfolding since tally
 falls-more n e h p q = rw (p, q) refl
 
 -- after the all-clear there is none
-falls-none : (n : Network) (e : Entry) (h : History) → cleared n e ≡ true → falls n (e ∷ h) ≡ 0
+falls-none : (n : Network) (e : Seen) (h : OwnHistory) → cleared n e ≡ true → falls n (e ∷ h) ≡ 0
 unfolding since tally
 falls-none n e h p = rw p refl
 
@@ -91,20 +90,20 @@ unfolding delayOf
 delay-compares n fit f = ap (λ (b : Bool). cond b (n .long) (n .short)) (count-compares (n .threshold) f (fit .threshold))
 
 -- ---- what a network's record keeps of a history
-pub record Follows (n : Network) (s : State) (h : History) : Type 0 where
+pub record Follows (n : Network) (s : State) (h : OwnHistory) : Type 0 where
   pub count : s .count ≡ min (falls n h) 255
-  pub wanted : modeNumber (s .wanted) ≡ wanted n h
+  pub wanted : modeNumber (s .wanted) ≡ wanted h
   pub told : modeNumber (s .told) ≡ told n h
 
 -- and still keeps after a call
-abbrev pub StillFollows : Network → History → Call → Part → Type 0
-StillFollows n h call part = (mode : ℕ) → Follows n (part .state) (entry call mode part ∷ h)
+abbrev pub StillFollows : Network → OwnHistory → Seen → State → Type 0
+StillFollows n h e t = Follows n t (e ∷ h)
 
 -- only passed makes the count 0
 count-by : (m : Move) (count : ℕ) → countAfter m count ≡ cond (isPass m) 0 count
 count-by Stay count = refl
 count-by AskAgain count = refl
-count-by Count count = refl
+count-by (Count next) count = refl
 count-by EnterFull count = refl
 count-by EnterSilent count = refl
 count-by Pass count = refl
@@ -113,85 +112,73 @@ count-by GoDown count = refl
 count-by EnterNoCommunication count = refl
 count-by (Enter next) count = refl
 
-module _ (n : Network) (h : History) (s : State) (k : Follows n s h) where
+module _ (n : Network) (h : OwnHistory) (s : State) (k : Follows n s h) where
   -- the count over an entry that leaves it alone, and over a tick
-  count-same : (e : Entry) → cleared n e ≡ false → fellUp n e ≡ false → s .count ≡ min (falls n (e ∷ h)) 255
+  count-same : (e : Seen) → cleared n e ≡ false → fellUp n e ≡ false → s .count ≡ min (falls n (e ∷ h)) 255
   count-same e p q = k .count ∙ ap (λ (x : ℕ). min x 255) (sym (falls-same n e h p q))
 
-  count-tick : (e : Entry) (b : Bool) → cleared n e ≡ b → fellUp n e ≡ false → cond b 0 (s .count) ≡ min (falls n (e ∷ h)) 255
+  count-tick : (e : Seen) (b : Bool) → cleared n e ≡ b → fellUp n e ≡ false → cond b 0 (s .count) ≡ min (falls n (e ∷ h)) 255
   count-tick e true p q = ap (λ (x : ℕ). min x 255) (sym (falls-none n e h p))
   count-tick e false p q = count-same e p q
 
-  -- the record follows the history over a call that hands out nothing, over a bus-off while up, over a tick
-  follows-plain : (call : Call) (number : ℕ) (mode : Mode) (reported : Bool) → Plain n s call number mode reported → StillFollows n h call (plainPart s number mode reported)
+  -- the record follows the history over what hands out nothing, over a bus-off while up, over a tick
+  follows-plain : (sight : Sight) (accepted : Bool) (mode : Mode) (reported : Bool) → Plain n s sight accepted mode reported
+      → StillFollows n h (seen sight accepted []) (plainState s mode reported)
   unfolding any told toldBy wanted
-  follows-plain call number mode reported p polled = record {
-    count = count-same (entry call polled (plainPart s number mode reported)) refl (and-false (isBusOff n call));
-    wanted = p .wanted ∙ ap (cond (isRequest n call && eqb 0 number) (modeAsked call)) (k .wanted);
+  follows-plain sight accepted mode reported p = record {
+    count = count-same (seen sight accepted []) refl (and-false (isBusOff sight));
+    wanted = p .wanted ∙ ap (λ (before : ℕ). cond accepted (wantedBy sight before) before) (k .wanted);
     told = k .told;
   }
 
-  follows-fall : (c room : ℕ) → isBusOff n (busOff c room) ≡ true → StillFollows n h (busOff c room) (recoveredPart n s)
-  unfolding told wanted
-  follows-fall c room e polled =
-      let b : Entry = entry (busOff c room) polled (recoveredPart n s) in
-      record {
-        count = raised-min (s .count) (falls n h) (k .count)
-            ∙ ap (λ (x : ℕ). min x 255) (sym (falls-more n b h (recovery-clears-not n) (rw (e, recovery-notes n) refl)));
-        wanted = k .wanted;
-        told = sym (recovery-tells n (told n h));
-      }
-
-  follows-tick : (room : ℕ) → StillFollows n h (tick room) (tickPart n s)
-  unfolding told wanted afterMove
-  follows-tick room polled =
-      let m : Move = decides n s in
-      record {
-        count = count-by m (s .count) ∙ count-tick (entry (tick room) polled (tickPart n s)) (isPass m) (move-clears n (s .step) (s .told) m) refl;
-        wanted = k .wanted;
-        told = sym (move-tells n (s .step) (s .told) m) ∙ ap (toldBy n (moveRecords n (s .step) (s .told) m)) (k .told);
-      }
-
-  -- and over a bus-off that changes neither of the three
-  follows-quiet : (c room number : ℕ) (t : State) → t .count ≡ s .count → t .wanted ≡ s .wanted → t .told ≡ s .told
-      → StillFollows n h (busOff c room) (record { number = number; records = []; state = t })
-  unfolding any told toldBy wanted
-  follows-quiet c room number t p q r polled = record {
-    count = p ∙ count-same (entry (busOff c room) polled (record { number = number; records = []; state = t })) refl (and-false (isBusOff n (busOff c room)));
-    wanted = ap modeNumber q ∙ k .wanted;
-    told = ap modeNumber r ∙ k .told;
+  follows-fall : StillFollows n h (seen aBusOff true (recovery (n .handle))) (recovered s)
+  unfolding told wanted afterHit madeAnew
+  follows-fall = record {
+    count = raised-min (s .count) (falls n h) (k .count)
+        ∙ ap (λ (x : ℕ). min x 255) (sym (falls-more n (seen aBusOff true (recovery (n .handle))) h (recovery-clears-not n) (recovery-notes n)));
+    wanted = k .wanted;
+    told = sym (recovery-tells n (told n h));
   }
 
-  -- the record follows the history over every call
-  pub follows-call : (needs : ℕ) (call : Call) → StillFollows n h call (partOf needs n s call)
-  unfolding any told toldBy wanted
-  follows-call needs = by-part needs n s (StillFollows n h) (record {
+  follows-tick : StillFollows n h (seen aTick true (tickHands n s)) (tickAfter n s)
+  unfolding told wanted afterMove
+  follows-tick =
+      let m : Move = decides n s in
+      record {
+        count = count-by m (s .count) ∙ count-tick (seen aTick true (tickHands n s)) (isPass m) (move-clears n (s .step) (s .told) m) refl;
+        wanted = k .wanted;
+        told = sym (move-tells n (s .step) (s .told) m) ∙ ap (toldBy n (tickHands n s)) (k .told);
+      }
+
+  -- the record follows the history over all that is seen
+  pub follows-call : (e : Seen) → Fits n s e → StillFollows n h e (played n s (e .sight) .state)
+  unfolding any told toldBy wanted afterHit madeAnew
+  follows-call = by-part n s (StillFollows n h) (record {
     plain = follows-plain;
-    hears = λ c mode ok m l e polled. record { count = count-same _ refl refl; wanted = k .wanted; told = k .told };
-    recovers = λ c room e u. follows-fall c room e;
-    restarts = λ c room e u. follows-quiet c room 0 _ refl refl refl;
-    not-taken = λ c room e u v. follows-quiet c room 0x22 s refl refl refl;
-    ticks = λ room e. follows-tick room;
+    hears = λ c mode ok m l e. record { count = count-same _ refl refl; wanted = k .wanted; told = k .told };
+    recovers = λ u. follows-fall;
+    restarts = λ u a. record { count = count-same _ refl refl; wanted = k .wanted; told = k .told };
+    not-taken = λ u a. record { count = count-same _ refl refl; wanted = k .wanted; told = k .told };
+    ticks = follows-tick;
   })
 
--- from the start on the record follows the history: its count is the number of bus-offs while up since the last all-clear, up to 255, its wanted mode the
+-- from the start on the record follows the history: its count is the number of bus-offs while up since the last all-clear, up to 255, its wanted
+-- mode the
 -- mode last wanted, its told mode the mode last told
-pub follows : (needs : ℕ) (n : Network) (h : History) → Ran needs n h → Follows n (stateOf needs n h) h
+pub follows : (n : Network) (h : OwnHistory) → Ran n h → Follows n (stateOf n h) h
 unfolding stateOf Ran started since tally told wanted
-follows needs n [] r = record { count = refl; wanted = refl; told = refl }
-follows needs n (e ∷ h) r =
-    subst (λ (x : Entry). Follows n (partOf needs n (stateOf needs n h) (e .call) .state) (x ∷ h)) (as-ruled needs n (stateOf needs n h) e (r .0))
-    (follows-call n h (stateOf needs n h) (follows needs n h (r .1)) needs (e .call) (e .mode))
+follows n [] r = record { count = refl; wanted = refl; told = refl }
+follows n (e ∷ h) r = follows-call n h (stateOf n h) (follows n h (r .1)) e (r .0)
 
 -- each of them by itself
-pub count-follows : (needs : ℕ) (n : Network) (h : History) → Ran needs n h → stateOf needs n h .count ≡ min (tally (fellUp n) (since (cleared n) h)) 255
-count-follows needs n h r = follows needs n h r .count
+pub count-follows : (n : Network) (h : OwnHistory) → Ran n h → stateOf n h .count ≡ min (tally (fellUp n) (since (cleared n) h)) 255
+count-follows n h r = follows n h r .count
 
-pub wanted-follows : (needs : ℕ) (n : Network) (h : History) → Ran needs n h → modeNumber (stateOf needs n h .wanted) ≡ wanted n h
-wanted-follows needs n h r = follows needs n h r .wanted
+pub wanted-follows : (n : Network) (h : OwnHistory) → Ran n h → modeNumber (stateOf n h .wanted) ≡ wanted h
+wanted-follows n h r = follows n h r .wanted
 
-pub told-follows : (needs : ℕ) (n : Network) (h : History) → Ran needs n h → modeNumber (stateOf needs n h .told) ≡ told n h
-told-follows needs n h r = follows needs n h r .told
+pub told-follows : (n : Network) (h : OwnHistory) → Ran n h → modeNumber (stateOf n h .told) ≡ told n h
+told-follows n h r = follows n h r .told
 
 -- ---- where the network stands after a bus-off while up, with no bus-off and no shutdown since, d being the delay and k the ticks since
 abbrev Late : Network → ℕ → Step → Mode → Bool → ℕ → ℕ → Type 0
@@ -215,22 +202,21 @@ abbrev LateState : Network → ℕ → State → ℕ → Type 0
 LateState n d s k = Late n d (s .step) (s .told) (s .asked) (s .count) k
 
 -- the delay after a bus-off while up is the one that the bus-off brings
-pub delay-begins : (n : Network) → Fit n → (h : History) (s : State) → Follows n s h → (c room : ℕ) → isBusOff n (busOff c room) ≡ true → (mode : ℕ)
-    → delayOf n (raised (s .count)) ≡ delayAt n (entry (busOff c room) mode (recoveredPart n s) ∷ h)
-delay-begins n fit h s k c room e mode = ap (delayOf n) (follows-fall n h s k c room e mode .count) ∙ delay-compares n fit _
+pub delay-begins : (n : Network) → Fit n → (h : OwnHistory) (s : State) → Follows n s h
+    → delayOf n (recovered s .count) ≡ delayAt n (seen aBusOff true (recovery (n .handle)) ∷ h)
+delay-begins n fit h s k = ap (delayOf n) (follows-fall n h s k .count) ∙ delay-compares n fit _
 
 -- whatever holds of a network that recovers holds after every bus-off while up
-pub fell-up-recovers : (needs : ℕ) (n : Network) (s : State) (P : Call → Part → Type 0)
-    → ((c room : ℕ) → isBusOff n (busOff c room) ≡ true → P (busOff c room) (recoveredPart n s))
-    → (call : Call) (mode : ℕ) → fellUp n (entry call mode (partOf needs n s call)) ≡ true → P call (partOf needs n s call)
+pub fell-up-recovers : (n : Network) (s : State) (P : Seen → State → Type 0) → P (seen aBusOff true (recovery (n .handle))) (recovered s)
+    → (e : Seen) → Fits n s e → fellUp n e ≡ true → P e (played n s (e .sight) .state)
 unfolding any
-fell-up-recovers needs n s P p = by-part needs n s (λ call part. (mode : ℕ) → fellUp n (entry call mode part) ≡ true → P call part) (record {
-  plain = λ call number wanted reported q mode f. absurd (false≢true (sym (and-false (isBusOff n call)) ∙ f));
-  hears = λ c asked ok m l e mode f. absurd (false≢true f);
-  recovers = λ c room e u mode f. p c room e;
-  restarts = λ c room e u mode f. absurd (false≢true (sym (and-false (isBusOff n (busOff c room))) ∙ f));
-  not-taken = λ c room e u v mode f. absurd (false≢true (sym (and-false (isBusOff n (busOff c room))) ∙ f));
-  ticks = λ room e mode f. absurd (false≢true f);
+fell-up-recovers n s P p = by-part n s (λ e t. fellUp n e ≡ true → P e t) (record {
+  plain = λ sight accepted wanted reported q f. absurd (false≢true (sym (and-false (isBusOff sight)) ∙ f));
+  hears = λ c mode ok m l e f. absurd (false≢true f);
+  recovers = λ u f. p;
+  restarts = λ u a f. absurd (false≢true f);
+  not-taken = λ u a f. absurd (false≢true f);
+  ticks = λ f. absurd (false≢true f);
 })
 
 -- a tick count rises by one at most
@@ -242,22 +228,25 @@ abbrev LateAfter : Network → ℕ → Step → Mode → Bool → ℕ → ℕ �
 LateAfter n d step told asked count k m =
     isGoDown m ≡ false → Late n d (stepAfter m step (n .partial)) (toldAfter m told) (asksAfter m asked) (countAfter m count) (suc k)
 
-module _ (n : Network) (d k count : ℕ) (told : Mode) (asked done refused reached : Bool) (outfit : Outfit) (done-means : done ≡ true → asked ≡ true) where
+module _
+    (n : Network) (d k count : ℕ) (told : Mode) (asked done refused reached : Bool) (outfit : Outfit) (done-means : done ≡ true → asked ≡ true) where
   -- a tick that goes down begins a shutdown
   down : {A : Type 0} → isGoDown GoDown ≡ false → A
   down e = absurd (true≢false e)
 
   -- in step 6 a tick finds all done, once asked, or asks again; in step 7 it counts, up to the delay
   late-restarting : Late n d Restarting told asked count k → LateAfter n d Restarting told asked count k (cond done Wait AskAgain)
-  late-restarting l = split (LateAfter n d Restarting told asked count k) done (λ e _. (l .0, l .1, omega (arith, l .2 (done-means e)))) (λ _ _. (l .0, l .1, λ _. omega arith))
+  late-restarting l =
+      split (LateAfter n d Restarting told asked count k) done
+      (λ e _. (l .0, l .1, omega (arith, l .2 (done-means e)))) (λ _ _. (l .0, l .1, λ _. omega arith))
 
   late-waiting : (t : ℕ) (m : Move) → Late n d (Waiting t) told asked count k → (reached ≡ true → LateAfter n d (Waiting t) told asked count k m)
-      → LateAfter n d (Waiting t) told asked count k (cond reached m Count)
+      → LateAfter n d (Waiting t) told asked count k (cond reached m (Count (Waiting (risen t))))
   late-waiting t m l f = split (LateAfter n d (Waiting t) told asked count k) reached f (λ _ _. (l .0, l .1, omega (arith, l .2, risen-most t)))
 
   -- a tick that does not go down
-  late-move : (step : Step) (wanted : Mode) → ((t : ℕ) → step ≡ Waiting t → reached ≡ true → delayOf n count ≤ t + 1) → Late n d step told asked count k
-      → LateAfter n d step told asked count k (decision step wanted done refused reached outfit)
+  late-move : (step : Step) (wanted : Mode) → ((t : ℕ) → step ≡ Waiting t → reached ≡ true → delayOf n count ≤ t + 1) →
+      Late n d step told asked count k → LateAfter n d step told asked count k (decision step wanted done refused reached outfit)
   unfolding decision
   late-move NoCommunication wanted r l = absurd l
   late-move TransceiverNormal wanted r l = absurd l
@@ -285,43 +274,35 @@ module _ (n : Network) (d k count : ℕ) (told : Mode) (asked done refused reach
   late-move CheckWake wanted r l = absurd l
   late-move CheckWakeAgain wanted r l = absurd l
 
--- it stands so over every call that is no bus-off and no shutdown
-late-call : (needs : ℕ) (n : Network) (d : ℕ) (h : History) (s : State) → LateState n d s (tally ticked h) → (call : Call) (mode : ℕ)
-    → fell n (entry call mode (partOf needs n s call)) ≡ false → shut n (entry call mode (partOf needs n s call)) ≡ false
-    → LateState n d (partOf needs n s call .state) (tally ticked (entry call mode (partOf needs n s call) ∷ h))
+-- it stands so over all that is no bus-off and no shutdown
+late-call : (n : Network) (d : ℕ) (h : OwnHistory) (s : State) → LateState n d s (tally ticked h) → (e : Seen) → Fits n s e
+    → fell e ≡ false → shut n e ≡ false → LateState n d (played n s (e .sight) .state) (tally ticked (e ∷ h))
 unfolding tally afterMove
-late-call needs n d h s l = by-part needs n s
-    (λ call part. (mode : ℕ) → fell n (entry call mode part) ≡ false → shut n (entry call mode part) ≡ false → LateState n d (part .state) (tally ticked (entry call mode part ∷ h)))
-    (record {
-      plain = λ call number wanted reported p mode _ _. rw (p .tick) l;
-      hears = λ c asked ok m v e mode _ _. l;
-      recovers = λ c room e u mode f _. absurd (true≢false (sym e ∙ f));
-      restarts = λ c room e u mode f _. absurd (true≢false (sym e ∙ f));
-      not-taken = λ c room e u v mode f _. absurd (true≢false (sym e ∙ f));
-      ticks = λ room e mode _ z. late-move n d (tally ticked h) (s .count) (s .told) (s .asked) (finished n s) _ (reaches n s) _ (finished-asked n s) (s .step) (s .wanted) (reaches-passed n s) l
-          (sym (move-shuts n (s .step) (s .told) (decides n s)) ∙ z);
-    })
+late-call n d h s l = by-part n s (λ e t. fell e ≡ false → shut n e ≡ false → LateState n d t (tally ticked (e ∷ h))) (record {
+  plain = λ sight accepted wanted reported p _ _. rw (p .tick) l;
+  hears = λ c mode ok m v e _ _. l;
+  recovers = λ u f _. absurd (true≢false f);
+  restarts = λ u a f _. absurd (true≢false f);
+  not-taken = λ u a f _. absurd (true≢false f);
+  ticks = λ _ z. late-move n d (tally ticked h) (s .count) (s .told) (s .asked) (finished n s) _ (reaches n s) _ (finished-asked n s)
+      (s .step) (s .wanted) (reaches-passed n s) l (sym (move-shuts n (s .step) (s .told) (decides n s)) ∙ z);
+})
 
-module _ (needs : ℕ) (n : Network) (fit : Fit n) (b : Entry) (h : History) (u : fellUp n b ≡ true) where
+module _ (n : Network) (fit : Fit n) (b : Seen) (h : OwnHistory) (u : fellUp n b ≡ true) where
   -- from the bus-off on
-  late : (s : History) → Ran needs n (s ++ (b ∷ h)) → never (fell n) s → never (shut n) s
-      → LateState n (delayAt n (b ∷ h)) (stateOf needs n (s ++ (b ∷ h))) (tally ticked s)
-  unfolding stateOf Ran tally
+  late : (s : OwnHistory) → Ran n (s ++ (b ∷ h)) → never fell s → never (shut n) s
+      → LateState n (delayAt n (b ∷ h)) (stateOf n (s ++ (b ∷ h))) (tally ticked s)
+  unfolding stateOf Ran tally afterHit madeAnew
   late [] r f z =
-      let t = stateOf needs n h in
-      subst (λ (x : Entry). LateState n (delayAt n (x ∷ h)) (partOf needs n t (b .call) .state) 0) (as-ruled needs n t b (r .0))
-      (fell-up-recovers needs n t (λ call part. LateState n (delayAt n (entry call (b .mode) part ∷ h)) (part .state) 0)
-      (λ c room e. (delay-begins n fit h t (follows needs n h (r .1)) c room e (b .mode), refl, λ q. absurd (false≢true q)))
-      (b .call) (b .mode) (subst (λ (x : Entry). fellUp n x ≡ true) (sym (as-ruled needs n t b (r .0))) u))
+      fell-up-recovers n (stateOf n h) (λ e t. LateState n (delayAt n (e ∷ h)) t 0)
+      (delay-begins n fit h (stateOf n h) (follows n h (r .1)), refl, λ q. absurd (false≢true q)) b (r .0) u
   late (e ∷ s) r f z =
-      let t = stateOf needs n (s ++ (b ∷ h)) in
-      subst (λ (x : Entry). fell n x ≡ false → shut n x ≡ false → LateState n (delayAt n (b ∷ h)) (partOf needs n t (e .call) .state) (tally ticked (x ∷ s)))
-      (as-ruled needs n t e (r .0))
-      (late-call needs n (delayAt n (b ∷ h)) s t (late s (r .1) (never-rest (fell n) e s f) (never-rest (shut n) e s z)) (e .call) (e .mode))
-      (never-first (fell n) e s f) (never-first (shut n) e s z)
+      late-call n (delayAt n (b ∷ h)) s (stateOf n (s ++ (b ∷ h))) (late s (r .1) (never-rest fell e s f) (never-rest (shut n) e s z)) e (r .0)
+      (never-first fell e s f) (never-first (shut n) e s z)
 
 -- full is told only where the delay and two ticks have passed
-late-full : (n : Network) (d k : ℕ) (step : Step) (told : Mode) (asked : Bool) (count : ℕ) → Late n d step told asked count k → modeNumber told ≡ 2 → d + 2 ≤ k
+late-full : (n : Network) (d k : ℕ) (step : Step) (told : Mode) (asked : Bool) (count : ℕ) →
+    Late n d step told asked count k → modeNumber told ≡ 2 → d + 2 ≤ k
 late-full n d k NoCommunication told asked count l e = absurd l
 late-full n d k TransceiverNormal told asked count l e = absurd l
 late-full n d k ControllersStopped told asked count l e = absurd l
@@ -339,7 +320,8 @@ late-full n d k CheckWake told asked count l e = absurd l
 late-full n d k CheckWakeAgain told asked count l e = absurd l
 
 -- demand 3, second sentence, of one network
-pub second-sentence : (needs : ℕ) (n : Network) → Fit n → (s : History) (b : Entry) (h : History) → Ran needs n (s ++ (b ∷ h)) → Delayed n s b h
-second-sentence needs n fit s b h r u f z t =
-    let w = stateOf needs n (s ++ (b ∷ h)) in
-    late-full n (delayAt n (b ∷ h)) (tally ticked s) (w .step) (w .told) (w .asked) (w .count) (late needs n fit b h u s r f z) (told-follows needs n (s ++ (b ∷ h)) r ∙ t)
+pub second-sentence : (n : Network) → Fit n → (s : OwnHistory) (b : Seen) (h : OwnHistory) → Ran n (s ++ (b ∷ h)) → Delayed n s b h
+second-sentence n fit s b h r u f z t =
+    let w = stateOf n (s ++ (b ∷ h)) in
+    late-full n (delayAt n (b ∷ h)) (tally ticked s) (w .step) (w .told) (w .asked) (w .count) (late n fit b h u s r f z)
+    (told-follows n (s ++ (b ∷ h)) r ∙ t)

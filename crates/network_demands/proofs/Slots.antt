@@ -1,26 +1,20 @@
--- The slots of the controllers' answers: what an answer changes, and when all are ok. Assumes nothing.
-use Prim.Native.Nat.{ℕ}
-use borrow.Author.Tests.{eqb-true, eqb-false}
-use mathlib.Core.Path.{_≡_, refl, sym, ap, subst, _∙_}
-use mathlib.Core.List.{List, [], _∷_, _++_, append-nil, append-assoc}
-use mathlib.Core.Bool.{Bool, true, false, _||_, or-true, false≢true, or-false}
-use lib.Dec.{eqb}
-use lib.ListN.{length, getD, take, set}
-use lib.Seq.{getD-set-same, getD-set-other}
+-- The slots of the controllers' answers: what an answer changes, and when all are ok.
+use Rattle.lists.proofs.Basics.{ℕ, eqb-true, eqb-false, _≡_, refl, sym, ap, subst, _∙_, List, [], _∷_, _++_, append-nil, append-assoc, Bool, true}
+use Rattle.lists.proofs.Basics.{false, _||_, or-true, false≢true, or-false, eqb, length, getD, take, set, getD-set-same, getD-set-other}
 use Rattle.lists.specs.Lists.{any, every, first}
 use Rattle.lists.proofs.Any.{any-append-left, any-append-right, every-cons}
 use Rattle.lists.proofs.Parts.{padded-count}
 use Rattle.settings.specs.declared.Network.{Network}
 use Rattle.settings.specs.Settings.{controllersOf, member}
 use Rattle.settings.specs.Good.{Fresh, Distinct, InRange}
-use Rattle.network.specs.declared.Answer.{Answer}
+use Rattle.network.specs.declared.LastAnswer.{LastAnswer}
 use Rattle.network.specs.declared.Heard.{Heard}
 use Rattle.network.specs.declared.State.{State}
 use Rattle.network.specs.State.{heard}
 use Rattle.network.specs.Rules.{isOkay}
 use Rattle.network_theorems.specs.Kept.{Kept}
 use Rattle.network_demands.proofs.Handed.{eqb-same}
-use Rattle.network_demands.specs.Own.{slotOf}
+use Rattle.network_demands.proofs.Views.{seatOf}
 use Rattle.network_demands.proofs.First.{same-slot, slot-in-use, saidOkay}
 
 -- a test that a member passes is passed by some
@@ -50,37 +44,40 @@ fresh-distinct e l f = fewer e [] l (rw (append-nil e) f)
   where
     fewer : (e d l : List ℕ) → Fresh (e ++ d) l → Fresh d l
     fewer e d [] f = tt
-    fewer e d (x ∷ l) f =
-        (any-append-right (λ (y : ℕ). eqb y x) e d (f .0), fewer e (d ++ (x ∷ [])) l (subst (λ (k : List ℕ). Fresh k l) (append-assoc e d (x ∷ [])) (f .1)))
+    fewer e d (x ∷ l) f = (
+      any-append-right (λ (y : ℕ). eqb y x) e d (f .0),
+      fewer e (d ++ (x ∷ [])) l (subst (λ (k : List ℕ). Fresh k l) (append-assoc e d (x ∷ [])) (f .1)),
+    )
 
 -- ---- answers
 -- what a controller answers stands in its slot
 pub okay-own : (n : Network) (s : State) → InRange n → Kept n s → (c : ℕ) (answer : Heard) → member c (controllersOf n) ≡ true
-    → saidOkay n (set (s .answers) (slotOf n c) answer) c ≡ isOkay answer
-okay-own n s g k c answer m = ap isOkay (getD-set-same (s .answers) (slotOf n c) answer (heard Answer.Pending) (slot-in-use n s c g k m .1))
+    → saidOkay n (set (s .answers) (seatOf n c) answer) c ≡ isOkay answer
+okay-own n s g k c answer m = ap isOkay (getD-set-same (s .answers) (seatOf n c) answer (heard LastAnswer.Pending) (slot-in-use n s c g k m .1))
 
 -- and leaves the other slots alone
-pub okay-other : (n : Network) (answers : List Heard) (c c′ : ℕ) (answer : Heard) → eqb c c′ ≡ false → member c (controllersOf n) ≡ true → member c′ (controllersOf n) ≡ true
-    → saidOkay n (set answers (slotOf n c′) answer) c ≡ saidOkay n answers c
+pub okay-other : (n : Network) (answers : List Heard) (c c′ : ℕ) (answer : Heard) → eqb c c′ ≡ false →
+    member c (controllersOf n) ≡ true → member c′ (controllersOf n) ≡ true → saidOkay n (set answers (seatOf n c′) answer) c ≡ saidOkay n answers c
 okay-other n answers c c′ answer e m m′ =
-    ap isOkay (getD-set-other answers (slotOf n c′) (slotOf n c) answer (heard Answer.Pending) (λ q. eqb-false c c′ e (same-slot n c c′ m m′ q)))
+    ap isOkay (getD-set-other answers (seatOf n c′) (seatOf n c) answer (heard LastAnswer.Pending) (λ q. eqb-false c c′ e (same-slot n c c′ m m′ q)))
 
 -- where each controller's slot is ok, all answers are
-each-okay : (e ids : List ℕ) (hs : List Heard) → Fresh e ids
-    → ((c : ℕ) → member c ids ≡ true → isOkay (getD hs (first (λ (x : ℕ). eqb x c) ids) (heard Answer.Pending)) ≡ true) → every isOkay (take (length ids) hs) ≡ true
+each-okay : (e ids : List ℕ) (hs : List Heard) → Fresh e ids → ((c : ℕ) → member c ids ≡ true →
+    isOkay (getD hs (first (λ (x : ℕ). eqb x c) ids) (heard LastAnswer.Pending)) ≡ true) → every isOkay (take (length ids) hs) ≡ true
 unfolding any first every Fresh
 each-okay e [] hs f o = refl
 each-okay e (x ∷ ids) [] f o = refl
 each-okay e (x ∷ ids) (h ∷ hs) f o =
+    let g = each-okay (e ++ (x ∷ [])) ids hs (f .1) (λ c m. rw (apart c m) at (o c (rw (apart c m) m))) in
     every-cons isOkay h (take (length ids) hs)
-    ∙ rw (rw (eqb-same x) at (o x (rw (eqb-same x) refl)), each-okay (e ++ (x ∷ [])) ids hs (f .1) (λ c m. rw (apart c m) at (o c (rw (apart c m) m)))) refl
+    ∙ rw (rw (eqb-same x) at (o x (rw (eqb-same x) refl)), g) refl
   where
     apart : (c : ℕ) → member c ids ≡ true → eqb x c ≡ false
     apart c m = sym (or-false (eqb x c)) ∙ any-append-right (λ (y : ℕ). eqb y c) e (x ∷ []) (fresh-apart (e ++ (x ∷ [])) ids (f .1) c m)
 
 -- so the step is done
-pub all-okay : (n : Network) → InRange n → Distinct (controllersOf n) → (answers : List Heard) → ((c : ℕ) → member c (controllersOf n) ≡ true → saidOkay n answers c ≡ true)
-    → every isOkay (take (n .count) answers) ≡ true
+pub all-okay : (n : Network) → InRange n → Distinct (controllersOf n) → (answers : List Heard) →
+    ((c : ℕ) → member c (controllersOf n) ≡ true → saidOkay n answers c ≡ true) → every isOkay (take (n .count) answers) ≡ true
 all-okay n g f answers o =
     let used : length (controllersOf n) ≡ n .count = padded-count 4 0 (n .controllers) (n .count) (g .few-controllers) (g .blank-slots) in
     ap (λ (k : ℕ). every isOkay (take k answers)) (sym used) ∙ each-okay [] (controllersOf n) answers f o

@@ -1,17 +1,14 @@
--- What the sentences of demand 3 need of a network's two tests: that its step is done, and that its time is reached. Where a box has other tests, that
--- which is false of them is refused here. Assumes nothing.
-use Prim.Native.Nat.{ℕ, _+_, _≤_}
-use borrow.Author.Tests.{leb-true}
-use mathlib.Core.Path.{_≡_, refl, sym, ap, _∙_}
-use mathlib.Core.Bool.{Bool, true, false, cond, false≢true}
-use lib.Dec.{leb}
+-- What the sentences of demand 3 need of a network's two tests: that its step is done, and that its time is reached. Where a box has other tests,
+-- that
+-- which is false of them is refused here.
+use Rattle.lists.proofs.Basics.{ℕ, _+_, _≤_, leb-true, _≡_, refl, sym, ap, _∙_, Bool, true, false, cond, false≢true, leb}
 use Rattle.lists.specs.Lists.{every}
 use Rattle.records.specs.declared.ControllerMode.{ControllerMode}
 use Rattle.settings.specs.declared.Network.{Network}
 use Rattle.steps.specs.declared.Step.{Step}
 use Rattle.steps.specs.declared.Step.the-variants.{Restarting, Waiting}
 use Rattle.steps.specs.declared.Ask.{Ask}
-use Rattle.steps.specs.Steps.{asksFor}
+use Rattle.steps.specs.Steps.{asksFor, timerOf}
 use Rattle.network.specs.declared.State.{State}
 use Rattle.network.specs.State.{heardOf}
 use Rattle.network.specs.Rules.{doneBy, isOkay, isDone, delayOf, reachedBy}
@@ -22,7 +19,7 @@ module _ (n : Network) (s : State) where
   finished-done : finished n s ≡ true → isDone n s ≡ true
   finished-done e = cc
 
-  reaches-reached : reaches n s ≡ true → reachedBy (s .step) (n .ensure) (delayOf n (s .count)) ≡ true
+  reaches-reached : reaches n s ≡ true → reachedBy (timerOf (s .step)) (n .ensure) (delayOf n (s .count)) ≡ true
   reaches-reached e = cc
 
   -- ---- the first sentence
@@ -31,8 +28,8 @@ module _ (n : Network) (s : State) where
   unfolding isDone
   finished-answered e f = by-test (s .asked) (asksFor (s .step)) f (finished-done e)
     where
-      by-test : (asked : Bool) (ask : Ask) → ask ≡ Ask.Controllers ControllerMode.Started → cond asked (doneBy ask (heardOf n s) (s .reported)) false ≡ true
-          → every isOkay (heardOf n s) ≡ true
+      by-test : (asked : Bool) (ask : Ask) → ask ≡ Ask.Controllers ControllerMode.Started →
+          cond asked (doneBy ask (heardOf n s) (s .reported)) false ≡ true → every isOkay (heardOf n s) ≡ true
       by-test true ask g d = ap (λ (ask : Ask). doneBy ask (heardOf n s) (s .reported)) (sym g) ∙ d
       by-test false ask g d = absurd (false≢true d)
 
@@ -49,7 +46,8 @@ module _ (n : Network) (s : State) where
   -- the time of step 7 is reached only where the delay of the count has passed with this tick
   pub reaches-passed : (t : ℕ) → s .step ≡ Waiting t → reaches n s ≡ true → delayOf n (s .count) ≤ t + 1
   reaches-passed t f e =
-      leb-true (delayOf n (s .count)) (t + 1) (ap (λ (step : Step). reachedBy step (n .ensure) (delayOf n (s .count))) (sym f) ∙ reaches-reached e)
+      leb-true
+      (delayOf n (s .count)) (t + 1) (ap (λ (step : Step). reachedBy (timerOf step) (n .ensure) (delayOf n (s .count))) (sym f) ∙ reaches-reached e)
 
   -- ---- the third sentence
   -- step 6 is done just where it has asked and the last answer of each is ok
@@ -59,4 +57,4 @@ module _ (n : Network) (s : State) where
 
   -- the time of step 7 is reached just where the delay of the count has passed with this tick
   pub reaches-just : (t : ℕ) → s .step ≡ Waiting t → reaches n s ≡ leb (delayOf n (s .count)) (t + 1)
-  reaches-just t f = ap (λ (step : Step). reachedBy step (n .ensure) (delayOf n (s .count))) f
+  reaches-just t f = ap (λ (step : Step). reachedBy (timerOf step) (n .ensure) (delayOf n (s .count))) f

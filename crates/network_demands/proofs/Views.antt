@@ -1,49 +1,44 @@
--- What a call makes of one network, once: whatever holds of each of six effects holds of every call. Assumes nothing.
-use Prim.Native.Nat.{ℕ}
-use native.Mathlib.Omega.{arith}
-use borrow.Author.Tests.{eqb-true, ltb-true}
-use mathlib.Core.Path.{_≡_, refl, sym, ap, subst, _∙_}
-use mathlib.Core.List.{[], _∷_}
-use mathlib.Core.Bool.{Bool, true, false, _&&_, cond, and-false, false≢true, true≢false}
-use lib.Dec.{eqb, ltb}
+-- What one network sees, once: whatever holds of each of six effects holds of every entry of its history.
+use Rattle.lists.proofs.Basics.{ℕ, arith, eqb-true, ltb-true, _≡_, refl, sym, ap, subst, _∙_, List, [], Bool, true, false, _&&_, cond, false≢true}
+use Rattle.lists.proofs.Basics.{true≢false, eqb, ltb, set}
 use Rattle.lists.proofs.Any.{and-both}
-use Rattle.lists.specs.Lists.{any}
+use Rattle.lists.specs.Lists.{any, first}
 use Rattle.records.specs.declared.Mode.{Mode}
+use Rattle.records.specs.declared.Record.{Record}
 use Rattle.records.specs.Records.{modeNumber}
 use Rattle.settings.specs.declared.Network.{Network}
-use Rattle.settings.specs.Settings.{controllersOf, transceiversOf, member}
+use Rattle.settings.specs.Settings.{controllersOf, member}
 use Rattle.settings.specs.Good.{InRange}
-use Rattle.steps.specs.declared.Step.{Step}
-use Rattle.steps.specs.declared.Step.the-variants.{NoCommunication, TransceiverNormal, ControllersStopped, ControllersStarted, Checking, Full, Restarting, Waiting, Silent, ClearWake, DownStopped, TransceiverStandby, ControllersSleep, CheckWake, CheckWakeAgain}
-use Rattle.steps.specs.Steps.{isUp}
+use Rattle.steps.specs.declared.Ask.{Ask}
+use Rattle.steps.specs.Steps.{asksFor, isAsk, asksToStart, isUp}
+use Rattle.handing.specs.Handing.{recovery}
 use Rattle.network.specs.declared.Hit.{Hit}
+use Rattle.network.specs.declared.Part.{Part}
 use Rattle.network.specs.declared.Report.{Report}
 use Rattle.network.specs.declared.State.{State}
-use Rattle.network.specs.State.{heardOf, wants, mayWant}
-use Rattle.network.specs.Moving.{afterMove}
+use Rattle.network.specs.State.{heard, heardOf, wants}
 use Rattle.network.specs.Rules.{isRefusal, outfitOf}
-use Rattle.network.specs.Answers.{takesReport, afterAnswer, afterReport}
-use Rattle.network.specs.BusOff.{isStarting, hitOf, madeAnew, afterHit, hitRecords}
-use Rattle.network_theorems.specs.Kept.{isAsking, Kept}
-use Rattle.network_theorems.proofs.Kept.{start-kept, move-kept, want-kept, hit-kept, answer-kept, report-kept}
-use Rattle.network_demands.specs.Calls.{Call, read, write, start, request, poll, busOff, answer, transceiverMode, clearDone, checkDone, tick, Entry, History}
-use Rattle.network_demands.specs.Words.{isTick, isBusOff, isAnswer, isRequest, modeAsked}
-use Rattle.network_demands.specs.Own.{Part, unmoved, moved, requestPart, modePart, reportPart, answerPart, heardState, recoveredState, recoveredPart, restartedState, finished, reaches, tickPart, hitPart, partOf, stateOf, Fits}
-
--- ---- tests
--- cases on a test, with the equation
-pub split : {A : Type 0} (P : A → Type 0) (b : Bool) {x y : A} → (b ≡ true → P x) → (b ≡ false → P y) → P (cond b x y)
-split P true p q = p refl
-split P false p q = q refl
+use Rattle.network.specs.Answers.{takesReport, answerOf, withAnswers, afterAnswer, afterReport}
+use Rattle.network.specs.Moving.{afterMove}
+use Rattle.network.specs.BusOff.{hitOf, madeAnew, afterHit, hitRecords}
+use Rattle.network.specs.Parts.{Sight, aTick, aBusOff, anAnswer, aRequest, aReport, nothing, isTaken, hitReply, requestPart, reportPart, answerPart}
+use Rattle.network_theorems.specs.Kept.{Kept}
+use Rattle.network_theorems.proofs.Kept.{move-kept, want-kept, hit-kept, answer-kept, report-kept}
+use Rattle.network_theorems.proofs.Parts.{by-hit, by-request, by-report, by-answer}
+use Rattle.network_demands.specs.Words.{Seen, isTick, isBusOff, isAnswer, wantedBy}
+use Rattle.network_demands.specs.Own.{finished, reaches, tickAfter, tickHands, recovered, restarted, hitAfter, played, handed, concerns, Fits}
 
 -- ---- entries
--- the entry of a call by what it makes of the network; the polled mode is any
-abbrev pub entry : Call → ℕ → Part → Entry
-entry call mode part = record { call = call; number = part .number; mode = mode; records = part .records }
+abbrev pub seen : Sight → Bool → List Record → Seen
+seen sight accepted records = record { sight = sight; accepted = accepted; records = records }
 
--- an entry that fits is the one of its call
-pub as-ruled : (needs : ℕ) (n : Network) (s : State) (e : Entry) → Fits needs n s e → entry (e .call) (e .mode) (partOf needs n s (e .call)) ≡ e
-as-ruled needs n s e f = λ i. record { call = e .call; number = sym (f .number) i; mode = e .mode; records = sym (f .records) i }
+-- the slot of a controller's answers
+abbrev pub seatOf : Network → ℕ → ℕ
+seatOf n c = first (λ (x : ℕ). eqb x c) (controllersOf n)
+
+-- the record after an answer that is taken: the slot of the controller holds it
+abbrev pub heardState : Network → State → ℕ → ℕ → State
+heardState n s c ok = withAnswers s (set (s .answers) (seatOf n c) (heard (answerOf (eqb ok 1))))
 
 -- ---- the six effects
 -- only the wanted mode and the report can change
@@ -51,98 +46,50 @@ abbrev pub plainState : State → Mode → Bool → State
 plainState s mode reported =
     record { step = s .step; wanted = mode; told = s .told; count = s .count; asked = s .asked; answers = s .answers; reported = reported }
 
-abbrev pub plainPart : State → ℕ → Mode → Bool → Part
-plainPart s number mode reported = record { number = number; records = []; state = plainState s mode reported }
-
--- a call that hands out nothing and is no accepted tick, no accepted answer of a controller of the network and no bus-off of it
-pub record Plain (n : Network) (s : State) (call : Call) (number : ℕ) (mode : Mode) (reported : Bool) : Type 0 where
-  pub tick : isTick call && eqb 0 number ≡ false
-  pub bus-off : isBusOff n call ≡ false
-  pub answer : (c value : ℕ) → member c (controllersOf n) ≡ true → isAnswer c value call && eqb 0 number ≡ false
-  -- the mode is that of the call, where it is an accepted request for the network, and else the one before
-  pub wanted : modeNumber mode ≡ cond (isRequest n call && eqb 0 number) (modeAsked call) (modeNumber (s .wanted))
+-- nothing is handed out, and it is no tick, no bus-off and no accepted answer of a controller of the network
+pub record Plain (n : Network) (s : State) (sight : Sight) (accepted : Bool) (mode : Mode) (reported : Bool) : Type 0 where
+  pub tick : isTick sight ≡ false
+  pub bus-off : isBusOff sight ≡ false
+  pub answer : (c value : ℕ) → member c (controllersOf n) ≡ true → isAnswer c value sight && accepted ≡ false
+  -- the mode is that of an accepted request, and else the one before
+  pub wanted : modeNumber mode ≡ cond accepted (wantedBy sight (modeNumber (s .wanted))) (modeNumber (s .wanted))
   -- it is no ok to the request to start, where that is awaited
-  pub deaf : (c : ℕ) → member c (controllersOf n) ≡ true → isAnswer c 1 call ≡ true → takesReport s (Report.Controller 1) ≡ false
+  pub deaf : (c : ℕ) → member c (controllersOf n) ≡ true → isAnswer c 1 sight ≡ true → takesReport s (Report.Controller 1) ≡ false
   pub kept : Kept n s → Kept n (plainState s mode reported)
 
--- P call part, for each effect
-pub record ByPart (needs : ℕ) (n : Network) (s : State) (P : Call → Part → Type 0) : Type 0 where
-  pub plain : (call : Call) (number : ℕ) (mode : Mode) (reported : Bool) → Plain n s call number mode reported → P call (plainPart s number mode reported)
-  pub hears : (c mode ok : ℕ) → member c (controllersOf n) ≡ true → ltb 1 ok ≡ false → takesReport s (Report.Controller mode) ≡ true → P (answer c mode ok) (moved (heardState n s c ok))
-  pub recovers : (c room : ℕ) → isBusOff n (busOff c room) ≡ true → isUp (s .step) ≡ true → P (busOff c room) (recoveredPart n s)
-  pub restarts : (c room : ℕ) → isBusOff n (busOff c room) ≡ true → s .step ≡ ControllersStarted → P (busOff c room) (moved (restartedState s))
-  pub not-taken : (c room : ℕ) → isBusOff n (busOff c room) ≡ true → isUp (s .step) ≡ false → isStarting (s .step) ≡ false → P (busOff c room) (unmoved s 0x22)
-  pub ticks : (room : ℕ) → ltb room needs ≡ false → P (tick room) (tickPart n s)
+-- P entry record, for each effect
+pub record ByPart (n : Network) (s : State) (P : Seen → State → Type 0) : Type 0 where
+  pub plain : (sight : Sight) (accepted : Bool) (mode : Mode) (reported : Bool) → Plain n s sight accepted mode reported
+      → P (seen sight accepted []) (plainState s mode reported)
+  pub hears : (c mode ok : ℕ) → member c (controllersOf n) ≡ true → ltb 1 ok ≡ false → takesReport s (Report.Controller mode) ≡ true
+      → P (seen (anAnswer c mode ok) true []) (heardState n s c ok)
+  pub recovers : isUp (s .step) ≡ true → P (seen aBusOff true (recovery (n .handle))) (recovered s)
+  pub restarts : isUp (s .step) ≡ false → asksToStart (asksFor (s .step)) ≡ true → P (seen aBusOff true []) (restarted s)
+  pub not-taken : isUp (s .step) ≡ false → asksToStart (asksFor (s .step)) ≡ false → P (seen aBusOff false []) s
+  pub ticks : P (seen aTick true (tickHands n s)) (tickAfter n s)
 
-starting-step : (step : Step) → isStarting step ≡ true → step ≡ ControllersStarted
-starting-step NoCommunication e = absurd (false≢true e)
-starting-step TransceiverNormal e = absurd (false≢true e)
-starting-step ControllersStopped e = absurd (false≢true e)
-starting-step ControllersStarted e = refl
-starting-step (Checking t) e = absurd (false≢true e)
-starting-step Full e = absurd (false≢true e)
-starting-step Restarting e = absurd (false≢true e)
-starting-step (Waiting t) e = absurd (false≢true e)
-starting-step Silent e = absurd (false≢true e)
-starting-step ClearWake e = absurd (false≢true e)
-starting-step DownStopped e = absurd (false≢true e)
-starting-step TransceiverStandby e = absurd (false≢true e)
-starting-step ControllersSleep e = absurd (false≢true e)
-starting-step CheckWake e = absurd (false≢true e)
-starting-step CheckWakeAgain e = absurd (false≢true e)
-
-module _ (needs : ℕ) (n : Network) (s : State) (P : Call → Part → Type 0) (by : ByPart needs n s P) where
-  -- a call that is no tick, no bus-off of the network, no answer and no request for it
-  rest : (call : Call) (number : ℕ) (reported : Bool) → isTick call ≡ false → isBusOff n call ≡ false → ((c value : ℕ) → isAnswer c value call ≡ false) → isRequest n call ≡ false
-      → (Kept n s → Kept n (plainState s (s .wanted) reported)) → P call (plainPart s number (s .wanted) reported)
-  rest call number reported t b a r k = by .plain call number (s .wanted) reported (record {
-    tick = rw t refl;
+module _ (n : Network) (s : State) (P : Seen → State → Type 0) (by : ByPart n s P) where
+  -- what is seen is no tick, no bus-off, no answer and no accepted request
+  quiet : (sight : Sight) (accepted reported : Bool) → isTick sight ≡ false → isBusOff sight ≡ false → ((c value : ℕ) →
+      isAnswer c value sight ≡ false) → modeNumber (s .wanted) ≡ cond accepted (wantedBy sight (modeNumber (s .wanted))) (modeNumber (s .wanted)) →
+      (Kept n s → Kept n (plainState s (s .wanted) reported)) → P (seen sight accepted []) (plainState s (s .wanted) reported)
+  quiet sight accepted reported t b a w k = by .plain sight accepted (s .wanted) reported (record {
+    tick = t;
     bus-off = b;
     answer = λ c value m. rw (a c value) refl;
-    wanted = rw r refl;
+    wanted = w;
     deaf = λ c m e. absurd (false≢true (sym (a c 1) ∙ e));
     kept = k;
   })
 
-  -- ---- requests
-  no-request : (handle mode number : ℕ) → isRequest n (request handle mode) && eqb 0 number ≡ false → P (request handle mode) (unmoved s number)
-  no-request handle mode number e = by .plain (request handle mode) number (s .wanted) (s .reported) (record {
+  -- an answer of a controller that is not taken, or of a controller of another network
+  unheard : (c mode ok : ℕ) (accepted : Bool) → (member c (controllersOf n) ≡ true → accepted ≡ false) → (member c (controllersOf n) ≡ true →
+      1 ≡ mode → 1 ≡ ok → takesReport s (Report.Controller 1) ≡ false) → P (seen (anAnswer c mode ok) accepted []) s
+  unheard c mode ok accepted z f = by .plain (anAnswer c mode ok) accepted (s .wanted) (s .reported) (record {
     tick = refl;
     bus-off = refl;
-    answer = λ c value m. refl;
-    wanted = rw e refl;
-    deaf = λ c m f. absurd (false≢true f);
-    kept = λ k. k;
-  })
-
-  one-request : (handle : ℕ) (mode : Mode) → eqb handle (n .handle) ≡ true → P (request handle (modeNumber mode)) (requestPart s mode)
-  unfolding requestPart wants
-  one-request handle mode e = split (P (request handle (modeNumber mode))) (mayWant (s .step) mode)
-      (λ f. by .plain (request handle (modeNumber mode)) 0 mode (s .reported) (record {
-        tick = refl;
-        bus-off = refl;
-        answer = λ c value m. refl;
-        wanted = rw e refl;
-        deaf = λ c m g. absurd (false≢true g);
-        kept = want-kept n s mode f;
-      }))
-      (λ f. no-request handle (modeNumber mode) 0x08 (and-false (eqb handle (n .handle))))
-
-  requests : (handle mode : ℕ) → eqb handle (n .handle) ≡ true → P (request handle mode) (modePart s mode)
-  requests handle mode e =
-      split (P (request handle mode)) (eqb mode 0) (λ f. subst (λ (k : ℕ). P (request handle k) (requestPart s Mode.No)) (sym (eqb-true mode 0 f)) (one-request handle Mode.No e))
-      (λ _. split (P (request handle mode)) (eqb mode 1) (λ f. subst (λ (k : ℕ). P (request handle k) (requestPart s Mode.Silent)) (sym (eqb-true mode 1 f)) (one-request handle Mode.Silent e))
-      (λ _. split (P (request handle mode)) (eqb mode 2) (λ f. subst (λ (k : ℕ). P (request handle k) (requestPart s Mode.Full)) (sym (eqb-true mode 2 f)) (one-request handle Mode.Full e))
-      (λ _. no-request handle mode 0x21 (and-false (eqb handle (n .handle))))))
-
-  -- ---- answers
-  no-answer : (c mode ok number : ℕ) → (member c (controllersOf n) ≡ true → eqb 0 number ≡ false)
-      → (member c (controllersOf n) ≡ true → 1 ≡ mode → 1 ≡ ok → takesReport s (Report.Controller 1) ≡ false) → P (answer c mode ok) (unmoved s number)
-  no-answer c mode ok number z f = by .plain (answer c mode ok) number (s .wanted) (s .reported) (record {
-    tick = refl;
-    bus-off = refl;
-    answer = λ c′ value m. refused c′ value m (isAnswer c′ value (answer c mode ok)) refl;
-    wanted = refl;
+    answer = λ c′ value m. refused c′ value m (isAnswer c′ value (anAnswer c mode ok)) refl;
+    wanted = same accepted;
     deaf = λ c′ m e.
         let p = and-both (eqb c′ c) _ e in
         let q = and-both (eqb 1 mode) _ (p .1) in
@@ -153,114 +100,151 @@ module _ (needs : ℕ) (n : Network) (s : State) (P : Call → Part → Type 0) 
       own : (c′ : ℕ) → member c′ (controllersOf n) ≡ true → eqb c′ c ≡ true → member c (controllersOf n) ≡ true
       own c′ m e = ap (λ (x : ℕ). member x (controllersOf n)) (sym (eqb-true c′ c e)) ∙ m
 
-      refused : (c′ value : ℕ) → member c′ (controllersOf n) ≡ true → (b : Bool) → isAnswer c′ value (answer c mode ok) ≡ b → b && eqb 0 number ≡ false
+      refused : (c′ value : ℕ) → member c′ (controllersOf n) ≡ true → (b : Bool) → isAnswer c′ value (anAnswer c mode ok) ≡ b → b && accepted ≡ false
       refused c′ value m false e = refl
       refused c′ value m true e = z (own c′ m (and-both (eqb c′ c) _ e .0))
 
-  answers : (c mode ok : ℕ) → member c (controllersOf n) ≡ true → P (answer c mode ok) (answerPart n s c mode ok)
-  unfolding answerPart reportPart afterAnswer
-  answers c mode ok m =
-      split (P (answer c mode ok)) (ltb 2 mode) (λ e. no-answer c mode ok 0x21 (λ _. refl) (λ _ f _. absurd (omega (arith, ltb-true 2 mode e, f))))
-      (λ _. split (P (answer c mode ok)) (ltb 1 ok) (λ e. no-answer c mode ok 0x21 (λ _. refl) (λ _ _ f. absurd (omega (arith, ltb-true 1 ok e, f))))
-      (λ l. split (P (answer c mode ok)) (takesReport s (Report.Controller mode)) (λ e. rw m (by .hears c mode ok m l e))
-      (λ e. no-answer c mode ok 0x22 (λ _. refl) (λ _ f _. ap (λ (k : ℕ). takesReport s (Report.Controller k)) f ∙ e))))
+      same : (b : Bool) → modeNumber (s .wanted) ≡ cond b (modeNumber (s .wanted)) (modeNumber (s .wanted))
+      same true = refl
+      same false = refl
 
-  -- ---- reports
-  reports : (call : Call) (report : Report) → isTick call ≡ false → isBusOff n call ≡ false → ((c value : ℕ) → isAnswer c value call ≡ false) → isRequest n call ≡ false
-      → P call (reportPart s report (afterReport s))
-  unfolding reportPart afterReport
-  reports call report t b a r = split (P call) (takesReport s report) (λ e. rest call 0 true t b a r (report-kept n s report e)) (λ _. rest call 0x22 (s .reported) t b a r (λ k. k))
+  -- an answer that is taken, of a controller of the network or of another
+  heard-by : (c mode ok : ℕ) → ltb 1 ok ≡ false → takesReport s (Report.Controller mode) ≡ true → (own : Bool) → member c (controllersOf n) ≡ own
+      → P (seen (anAnswer c mode ok) true []) (cond own (heardState n s c ok) s)
+  heard-by c mode ok l t true m = by .hears c mode ok m l t
+  heard-by c mode ok l t false m = unheard c mode ok true (λ e. absurd (true≢false (sym e ∙ m))) (λ e _ _. absurd (true≢false (sym e ∙ m)))
 
-  -- ---- bus-offs
-  hits : (c room : ℕ) → isBusOff n (busOff c room) ≡ true → P (busOff c room) (hitPart n s (hitOf (s .step)))
-  unfolding hitOf afterHit madeAnew hitRecords
-  hits c room e =
-      split (λ (hit : Hit). P (busOff c room) (hitPart n s hit)) (isUp (s .step)) (λ u. by .recovers c room e u)
-      (λ u. split (λ (hit : Hit). P (busOff c room) (hitPart n s hit)) (isStarting (s .step)) (λ g. by .restarts c room e (starting-step (s .step) g)) (λ g. by .not-taken c room e u g))
+  -- ---- by what is seen
+  -- an entry whose answer is the one that is due
+  abbrev Due : Sight → Bool → Part → Type 0
+  Due sight accepted part = accepted ≡ isTaken (part .reply) → P (seen sight accepted []) (part .state)
 
-  other-bus-off : (c room number : ℕ) → isBusOff n (busOff c room) ≡ false → P (busOff c room) (unmoved s number)
-  other-bus-off c room number e = rest (busOff c room) number (s .reported) refl e (λ c value. refl) refl (λ k. k)
+  answers : (c mode ok : ℕ) (accepted : Bool) → Due (anAnswer c mode ok) accepted (answerPart n s c mode ok)
+  unfolding afterAnswer
+  answers c mode ok accepted =
+      by-answer s (Due (anAnswer c mode ok) accepted) n c mode ok (λ l t e. subst (λ (b : Bool). P (seen (anAnswer c mode ok) b []) (afterAnswer n s
+      c (eqb ok 1))) (sym e) (heard-by c mode ok l t (member c (controllersOf n)) refl)) (λ o e. unheard c mode ok accepted (λ _. e) (λ _ _ f. absurd
+      (omega (arith, ltb-true 1 ok o, f)))) (λ o e. unheard c mode ok accepted (λ _. e) (λ _ f _. absurd (omega (arith, ltb-true 2 mode o, f))))
+      (λ t e. unheard c mode ok accepted (λ _. e) (λ _ f _. ap (λ (k : ℕ). takesReport s (Report.Controller k)) f ∙ t))
 
-  -- ---- all calls
-  -- whatever holds of each effect holds of every call
-  pub by-part : (call : Call) → P call (partOf needs n s call)
-  unfolding partOf
-  by-part (read bytes) = rest (read bytes) 0 (s .reported) refl refl (λ c value. refl) refl (λ k. k)
-  by-part (write room) = rest (write room) 0 (s .reported) refl refl (λ c value. refl) refl (λ k. k)
-  by-part start = rest start 0 (s .reported) refl refl (λ c value. refl) refl (λ k. k)
-  by-part (request handle mode) =
-      split (P (request handle mode)) (eqb handle (n .handle)) (λ e. requests handle mode e) (λ e. no-request handle mode 0 (rw e refl))
-  by-part (poll handle) = rest (poll handle) 0 (s .reported) refl refl (λ c value. refl) refl (λ k. k)
-  by-part (busOff controller room) =
-      split (P (busOff controller room)) (ltb room 9) (λ e. other-bus-off controller room 0x20 (rw e refl))
-      (λ e. split (P (busOff controller room)) (member controller (controllersOf n)) (λ m. hits controller room (rw (e, m) refl)) (λ m. other-bus-off controller room 0 (rw (e, m) refl)))
-  by-part (answer controller mode ok) =
-      split (P (answer controller mode ok)) (member controller (controllersOf n)) (λ m. answers controller mode ok m)
-      (λ e. no-answer controller mode ok 0 (λ m. absurd (true≢false (sym m ∙ e))) (λ m _ _. absurd (true≢false (sym m ∙ e))))
-  by-part (transceiverMode transceiver mode) =
-      split (P (transceiverMode transceiver mode)) (member transceiver (transceiversOf n))
-      (λ _. split (P (transceiverMode transceiver mode)) (ltb 2 mode) (λ _. rest (transceiverMode transceiver mode) 0x21 (s .reported) refl refl (λ c value. refl) refl (λ k. k))
-      (λ _. reports (transceiverMode transceiver mode) (Report.Transceiver mode) refl refl (λ c value. refl) refl))
-      (λ _. rest (transceiverMode transceiver mode) 0 (s .reported) refl refl (λ c value. refl) refl (λ k. k))
-  by-part (clearDone transceiver) =
-      split (P (clearDone transceiver)) (member transceiver (transceiversOf n)) (λ _. reports (clearDone transceiver) Report.Cleared refl refl (λ c value. refl) refl)
-      (λ _. rest (clearDone transceiver) 0 (s .reported) refl refl (λ c value. refl) refl (λ k. k))
-  by-part (checkDone transceiver) =
-      split (P (checkDone transceiver)) (member transceiver (transceiversOf n)) (λ _. reports (checkDone transceiver) Report.Checked refl refl (λ c value. refl) refl)
-      (λ _. rest (checkDone transceiver) 0 (s .reported) refl refl (λ c value. refl) refl (λ k. k))
-  by-part (tick room) =
-      split (P (tick room)) (ltb room needs)
-      (λ _. by .plain (tick room) 0x20 (s .wanted) (s .reported) (record {
+  requests : (number : ℕ) (accepted : Bool) → Due (aRequest number) accepted (requestPart s number)
+  unfolding wants
+  requests number accepted = by-request s (Due (aRequest number) accepted) number
+      (λ mode same may e. subst (λ (b : Bool). P (seen (aRequest number) b []) (wants s mode)) (sym e)
+      (by .plain (aRequest number) true mode (s .reported) (record {
         tick = refl;
         bus-off = refl;
         answer = λ c value m. refl;
-        wanted = refl;
+        wanted = sym same;
         deaf = λ c m f. absurd (false≢true f);
-        kept = λ k. k;
-      }))
-      (λ e. by .ticks room e)
+        kept = want-kept n s mode may;
+      })))
+      unchanged unchanged
+    where
+      unchanged : accepted ≡ false → P (seen (aRequest number) accepted []) s
+      unchanged e =
+          quiet (aRequest number) accepted
+          (s .reported) refl refl (λ c value. refl) (ap (λ (b : Bool). cond b number (modeNumber (s .wanted))) (sym e)) (λ k. k)
 
--- ---- what is kept of a record, after any calls
-tick-part-kept : (n : Network) (s : State) → Kept n s → Kept n (tickPart n s .state)
+  reports : (report : Report) (accepted : Bool) → Due (aReport report) accepted (reportPart s report)
+  unfolding reportPart afterReport
+  reports report accepted = by-report s (Due (aReport report) accepted) report _
+      (λ t e. quiet (aReport report) accepted true refl refl (λ c value. refl) (same accepted) (report-kept n s report t))
+      (λ _ _. unchanged) (λ _ _. unchanged)
+    where
+      same : (b : Bool) → modeNumber (s .wanted) ≡ cond b (modeNumber (s .wanted)) (modeNumber (s .wanted))
+      same true = refl
+      same false = refl
+
+      unchanged : P (seen (aReport report) accepted []) s
+      unchanged = quiet (aReport report) accepted (s .reported) refl refl (λ c value. refl) (same accepted) (λ k. k)
+
+  bus-offs : (accepted : Bool) → accepted ≡ isTaken (hitReply (hitOf (s .step)))
+      → P (seen aBusOff accepted (hitRecords n (hitOf (s .step)))) (hitAfter s (hitOf (s .step)))
+  unfolding hitRecords
+  bus-offs accepted = by-hit s (λ hit. accepted ≡ isTaken (hitReply hit) → P (seen aBusOff accepted (hitRecords n hit)) (hitAfter s hit))
+      (λ u e. subst (λ (b : Bool). P (seen aBusOff b (recovery (n .handle))) (recovered s)) (sym e) (by .recovers u))
+      (λ u a e. subst (λ (b : Bool). P (seen aBusOff b []) (restarted s)) (sym e) (by .restarts u a))
+      (λ u a e. subst (λ (b : Bool). P (seen aBusOff b []) s) (sym e) (by .not-taken u a))
+
+  by-sight : (sight : Sight) (accepted : Bool) → (concerns sight ≡ true → accepted ≡ isTaken (played n s sight .reply))
+      → P (seen sight accepted (handed n s sight)) (played n s sight .state)
+  unfolding played handed
+  by-sight aTick accepted f = subst (λ (b : Bool). P (seen aTick b (tickHands n s)) (tickAfter n s)) (sym (f refl)) (by .ticks)
+  by-sight aBusOff accepted f = bus-offs accepted (f refl)
+  by-sight (anAnswer c mode ok) accepted f = answers c mode ok accepted (f refl)
+  by-sight (aRequest mode) accepted f = requests mode accepted (f refl)
+  by-sight (aReport report) accepted f = reports report accepted (f refl)
+  by-sight nothing accepted f = quiet nothing accepted (s .reported) refl refl (λ c value. refl) (same accepted) (λ k. k)
+    where
+      same : (b : Bool) → modeNumber (s .wanted) ≡ cond b (modeNumber (s .wanted)) (modeNumber (s .wanted))
+      same true = refl
+      same false = refl
+
+  -- whatever holds of each effect holds of every entry that fits
+  pub by-part : (e : Seen) → Fits n s e → P e (played n s (e .sight) .state)
+  by-part e f =
+      subst (λ (x : Seen). P x (played n s (e .sight) .state))
+      (λ i. record { sight = e .sight; accepted = e .accepted; records = sym (f .records) i }) (by-sight (e .sight) (e .accepted) (f .accepted))
+
+-- ---- what is kept of a record
+-- each part is given by itself, so that a box whose record differs elsewhere is not refused here
+tick-after-kept : (n : Network) (s : State) → Kept n s → Kept n (tickAfter n s)
 unfolding afterMove
-tick-part-kept n s k =
+tick-after-kept n s k =
     let after = move-kept n s (finished n s) (any isRefusal (heardOf n s)) (reaches n s) (outfitOf (n .transceiver) (n .partial)) k in
-    record { told = after .told; wanted = after .wanted; asked = after .asked; answers = after .answers; reported = after .reported; slots = after .slots }
+    record {
+      told = after .told;
+      wanted = after .wanted;
+      asked = after .asked;
+      answers = after .answers;
+      reported = after .reported;
+      slots = after .slots;
+    }
 
--- the slots stay in their form whatever is kept of the answers
-recovered-kept : (n : Network) (s : State) → Kept n s → Kept n (recoveredState s)
+recovered-kept : (n : Network) (s : State) → Kept n s → Kept n (recovered s)
 unfolding afterHit madeAnew
 recovered-kept n s k =
     let blank = hit-kept n s Hit.Recover k .slots in
     let kept = k .slots in
-    record { told = refl; wanted = λ f. refl; asked = λ f. refl; answers = λ f. absurd (true≢false f); reported = λ f. refl; slots = search (blank, kept) }
+    record {
+      told = refl;
+      wanted = λ f. refl;
+      asked = λ f. refl;
+      answers = λ f. absurd (true≢false f);
+      reported = λ f. refl;
+      slots = search (blank, kept);
+    }
 
-restarted-kept : (n : Network) (s : State) → s .step ≡ ControllersStarted → Kept n s → Kept n (restartedState s)
+-- a step that asks to start asks for something
+starts-asks : (ask : Ask) → asksToStart ask ≡ true → isAsk ask ≡ true
+starts-asks Ask.Nothing e = e
+starts-asks (Ask.Controllers mode) e = refl
+starts-asks (Ask.Transceiver mode) e = refl
+starts-asks Ask.ClearWake e = refl
+starts-asks Ask.CheckWake e = refl
+
+restarted-kept : (n : Network) (s : State) → asksToStart (asksFor (s .step)) ≡ true → Kept n s → Kept n (restarted s)
 unfolding afterHit madeAnew
-restarted-kept n s u k =
+restarted-kept n s a k =
     let blank = hit-kept n s Hit.Restart k .slots in
     let kept = k .slots in
     record {
       told = k .told;
       wanted = k .wanted;
       asked = λ f. refl;
-      answers = λ f. absurd (true≢false (ap isAsking (sym u) ∙ f));
+      answers = λ f. absurd (true≢false (sym (starts-asks (asksFor (s .step)) a) ∙ f));
       reported = λ f. refl;
       slots = search (blank, kept);
     }
 
-part-kept : (needs : ℕ) (n : Network) (s : State) → InRange n → Kept n s → (call : Call) → Kept n (partOf needs n s call .state)
+pub part-kept : (n : Network) (s : State) → InRange n → Kept n s → (e : Seen) → Fits n s e → Kept n (played n s (e .sight) .state)
 unfolding afterAnswer
-part-kept needs n s g k = by-part needs n s (λ call part. Kept n (part .state)) (record {
-  plain = λ call number mode reported p. p .kept k;
+part-kept n s g k = by-part n s (λ e t. Kept n t) (record {
+  plain = λ sight accepted mode reported p. p .kept k;
   hears = λ c mode ok m l e. rw m at (answer-kept n s c mode (eqb ok 1) g e k);
-  recovers = λ c room e u. recovered-kept n s k;
-  restarts = λ c room e u. restarted-kept n s u k;
-  not-taken = λ c room e u v. k;
-  ticks = λ room e. tick-part-kept n s k;
+  recovers = λ u. recovered-kept n s k;
+  restarts = λ u a. restarted-kept n s a k;
+  not-taken = λ u a. k;
+  ticks = tick-after-kept n s k;
 })
-
-pub state-kept : (needs : ℕ) (n : Network) → InRange n → (h : History) → Kept n (stateOf needs n h)
-unfolding stateOf
-state-kept needs n g [] = start-kept n
-state-kept needs n g (e ∷ h) = part-kept needs n (stateOf needs n h) g (state-kept needs n g h) (e .call)

@@ -1,11 +1,6 @@
--- What `Kept` says of a record is given by the start and kept by every call and every tick. Assumes nothing.
-use Prim.Native.Nat.{ℕ, zero, suc, _<_}
-use native.Mathlib.Omega.{arith}
-use mathlib.Core.Path.{_≡_, refl, sym, ap, _∙_}
-use mathlib.Core.List.{List}
-use mathlib.Core.Bool.{Bool, true, false, cond, false≢true, true≢false}
-use lib.Dec.{eqb}
-use lib.ListN.{length, take, set}
+-- What `Kept` says of a record is given by the start and kept by every call and every tick.
+use Rattle.lists.proofs.Basics.{ℕ, zero, suc, _<_, arith, _≡_, refl, sym, ap, _∙_, List, Bool, true, false, cond, false≢true, true≢false, eqb}
+use Rattle.lists.proofs.Basics.{length, take, set}
 use lib.Seq.{take-nil}
 use Rattle.lists.specs.Lists.{first, padded}
 use Rattle.lists.proofs.Any.{first-below}
@@ -19,10 +14,10 @@ use Rattle.steps.specs.declared.Step.the-variants.{Full, Silent, ClearWake, Che
 use Rattle.steps.specs.declared.Outfit.{Outfit}
 use Rattle.steps.specs.declared.Move.{Move}
 use Rattle.steps.specs.declared.Ask.{Ask}
-use Rattle.steps.specs.Steps.{asksFor, isUp}
+use Rattle.steps.specs.Steps.{asksFor, isUp, isFullStep, isAsk, isAsking}
 use Rattle.steps.specs.Decision.{decision}
 use Rattle.steps.specs.After.{firstDown, stepAfter}
-use Rattle.network.specs.declared.Answer.{Answer}
+use Rattle.network.specs.declared.LastAnswer.{LastAnswer}
 use Rattle.network.specs.declared.Heard.{Heard}
 use Rattle.network.specs.declared.Hit.{Hit}
 use Rattle.network.specs.declared.Report.{Report}
@@ -32,12 +27,12 @@ use Rattle.network.specs.Rules.{moveOf}
 use Rattle.network.specs.Moving.{lowered, toldAfter, asksAfter, keepsAnswers, afterMove, tickState}
 use Rattle.network.specs.BusOff.{madeAnew, afterHit}
 use Rattle.network.specs.Answers.{awaits, takesReport, answerOf, withAnswers, afterAnswer, afterReport}
-use Rattle.network_theorems.specs.Kept.{isFullMode, isFullStep, isAsk, isAsking, Kept}
+use Rattle.network_theorems.specs.Kept.{isFullMode, Kept}
 use Rattle.network_theorems.proofs.Moves.{ByMove, by-move}
 
 -- ---- blank answers
 -- whatever the count, blank answers are their first ones, filled up
-blank-slots : (k : ℕ) → blankAnswers ≡ padded 4 (heard Answer.Pending) (take k blankAnswers)
+blank-slots : (k : ℕ) → blankAnswers ≡ padded 4 (heard LastAnswer.Pending) (take k blankAnswers)
 blank-slots zero = refl
 blank-slots (suc zero) = refl
 blank-slots (suc (suc zero)) = refl
@@ -46,7 +41,8 @@ blank-slots (suc (suc (suc (suc k)))) = rw (take-nil k) refl
 
 -- ---- told: full exactly in steps 4 and 5
 abbrev ToldFits : Step → Mode → Move → Type 0
-ToldFits step wanted m = (told : Mode) (partial : Bool) → isFullMode told ≡ isFullStep step → isFullMode (toldAfter m told) ≡ isFullStep (stepAfter m step partial)
+ToldFits step wanted m =
+    (told : Mode) (partial : Bool) → isFullMode told ≡ isFullStep step → isFullMode (toldAfter m told) ≡ isFullStep (stepAfter m step partial)
 
 lowered-not-full : (told : Mode) → isFullMode (lowered told) ≡ false
 lowered-not-full Mode.No = refl
@@ -57,78 +53,42 @@ first-down-not-full : (partial : Bool) → isFullStep (firstDown partial) ≡ fa
 first-down-not-full true = refl
 first-down-not-full false = refl
 
-told-fits : ByMove ToldFits
-told-fits = record {
+told-fits : (done : Bool) → ByMove done ToldFits
+told-fits done = record {
   stays = λ step wanted told partial e. e;
   asks-again = λ step wanted a told partial e. e;
-  checking-counts = λ t wanted told partial e. e;
-  waiting-counts = λ t wanted told partial e. e;
-  passes = λ t wanted told partial e. e;
-  started-full = λ wanted told partial e. refl;
-  waiting-full = λ t wanted told partial e. refl;
-  silent-full = λ told partial e. refl;
-  checking-silent = λ t told partial e. refl;
-  full-silent = λ told partial e. refl;
-  waiting-silent = λ t told partial e. refl;
-  waits = λ wanted told partial e. e;
-  goes-down = λ step a told partial e. lowered-not-full told ∙ sym (first-down-not-full partial);
-  standby-ends = λ wanted told partial e. refl;
-  sleep-ends = λ wanted told partial e. refl;
-  check-ends = λ wanted told partial e. refl;
-  to-normal = λ told partial e. e;
-  to-stopped = λ told partial e. e;
-  normal-stopped = λ wanted told partial e. e;
-  stopped-started = λ wanted told partial e. e;
-  cleared-stopped = λ wanted told partial e. e;
-  stopped-sleep = λ wanted told partial e. e;
-  stopped-standby = λ wanted told partial e. e;
-  standby-sleep = λ wanted told partial e. e;
-  sleep-standby = λ wanted told partial e. e;
-  sleep-check = λ wanted told partial e. e;
-  sleep-again = λ wanted told partial e. e;
-  again-clear = λ wanted told partial e. e;
+  counts = λ step next wanted q r f told partial e. e ∙ sym f;
+  passes = λ step wanted q f told partial e. e ∙ f;
+  fills = λ step wanted q told partial e. refl;
+  starts = λ step wanted d a told partial e. refl;
+  silences = λ step wanted q told partial e. refl;
+  waits = λ step wanted d a f told partial e. e ∙ f;
+  goes-down = λ step o told partial e. lowered-not-full told ∙ sym (first-down-not-full partial);
+  ends = λ step wanted u told partial e. refl;
+  enters = λ step next wanted a u f told partial e. e ∙ sym f;
 }
 
 -- ---- wanted: silent only in steps 4 to 8
 abbrev WantedFits : Step → Mode → Move → Type 0
-WantedFits step wanted m = (partial : Bool) → (wanted ≡ Mode.Silent → isUp step ≡ true) → wanted ≡ Mode.Silent → isUp (stepAfter m step partial) ≡ true
+WantedFits step wanted m =
+    (partial : Bool) → (wanted ≡ Mode.Silent → isUp step ≡ true) → wanted ≡ Mode.Silent → isUp (stepAfter m step partial) ≡ true
 
 not-silent : {A : Type 0} (f : Mode.No ≡ Mode.Silent) → A
 not-silent f = absurd (let z : _≡_ {A = ℕ} 0 1 = cc in omega arith)
 
-full-not-silent : {A : Type 0} (f : Mode.Full ≡ Mode.Silent) → A
-full-not-silent f = absurd (let z : _≡_ {A = ℕ} 0 1 = cc in omega arith)
-
-wanted-fits : ByMove WantedFits
-wanted-fits = record {
+wanted-fits : (done : Bool) → ByMove done WantedFits
+wanted-fits done = record {
   stays = λ step wanted partial e f. e f;
   asks-again = λ step wanted a partial e f. e f;
-  checking-counts = λ t wanted partial e f. refl;
-  waiting-counts = λ t wanted partial e f. refl;
-  passes = λ t wanted partial e f. refl;
-  started-full = λ wanted partial e f. refl;
-  waiting-full = λ t wanted partial e f. refl;
-  silent-full = λ partial e f. refl;
-  checking-silent = λ t partial e f. refl;
-  full-silent = λ partial e f. refl;
-  waiting-silent = λ t partial e f. refl;
-  waits = λ wanted partial e f. refl;
-  goes-down = λ step a partial e f. not-silent f;
-  standby-ends = λ wanted partial e f. absurd (false≢true (e f));
-  sleep-ends = λ wanted partial e f. absurd (false≢true (e f));
-  check-ends = λ wanted partial e f. absurd (false≢true (e f));
-  to-normal = λ partial e f. full-not-silent f;
-  to-stopped = λ partial e f. full-not-silent f;
-  normal-stopped = λ wanted partial e f. absurd (false≢true (e f));
-  stopped-started = λ wanted partial e f. absurd (false≢true (e f));
-  cleared-stopped = λ wanted partial e f. absurd (false≢true (e f));
-  stopped-sleep = λ wanted partial e f. absurd (false≢true (e f));
-  stopped-standby = λ wanted partial e f. absurd (false≢true (e f));
-  standby-sleep = λ wanted partial e f. absurd (false≢true (e f));
-  sleep-standby = λ wanted partial e f. absurd (false≢true (e f));
-  sleep-check = λ wanted partial e f. absurd (false≢true (e f));
-  sleep-again = λ wanted partial e f. absurd (false≢true (e f));
-  again-clear = λ wanted partial e f. absurd (false≢true (e f));
+  counts = λ step next wanted q r g partial e f. r .up;
+  passes = λ step wanted q g partial e f. refl;
+  fills = λ step wanted q partial e f. refl;
+  starts = λ step wanted d a partial e f. refl;
+  silences = λ step wanted q partial e f. refl;
+  waits = λ step wanted d a g partial e f. refl;
+  goes-down = λ step o partial e f. not-silent f;
+  ends = λ step wanted u partial e f. absurd (false≢true (sym u ∙ e f));
+  enters = λ step next wanted a u g partial e f. u ∙ e f;
 }
 
 -- ---- asked, answers, report: no and blank in a step that asks nothing
@@ -144,40 +104,23 @@ first-down-asks : (partial : Bool) → isAsking (firstDown partial) ≡ true
 first-down-asks true = refl
 first-down-asks false = refl
 
-form-fits : ByMove FormFits
-form-fits = record {
+form-fits : (done : Bool) → ByMove done FormFits
+form-fits done = record {
   stays = λ step wanted partial asked reported answers e f. e f;
   asks-again = λ step wanted a partial asked reported answers e f. absurd (true≢false (sym a ∙ f));
-  checking-counts = λ t wanted partial asked reported answers e f. e refl;
-  waiting-counts = λ t wanted partial asked reported answers e f. e refl;
-  passes = λ t wanted partial asked reported answers e f. (refl, refl, refl);
-  started-full = λ wanted partial asked reported answers e f. (refl, refl, refl);
-  waiting-full = λ t wanted partial asked reported answers e f. (refl, refl, refl);
-  silent-full = λ partial asked reported answers e f. (refl, refl, refl);
-  checking-silent = λ t partial asked reported answers e f. (refl, refl, refl);
-  full-silent = λ partial asked reported answers e f. (refl, refl, refl);
-  waiting-silent = λ t partial asked reported answers e f. (refl, refl, refl);
-  waits = λ wanted partial asked reported answers e f. (refl, refl, refl);
-  goes-down = λ step a partial asked reported answers e f. absurd (true≢false (sym (first-down-asks partial) ∙ f));
-  standby-ends = λ wanted partial asked reported answers e f. (refl, refl, refl);
-  sleep-ends = λ wanted partial asked reported answers e f. (refl, refl, refl);
-  check-ends = λ wanted partial asked reported answers e f. (refl, refl, refl);
-  to-normal = λ partial asked reported answers e f. absurd (true≢false f);
-  to-stopped = λ partial asked reported answers e f. absurd (true≢false f);
-  normal-stopped = λ wanted partial asked reported answers e f. absurd (true≢false f);
-  stopped-started = λ wanted partial asked reported answers e f. absurd (true≢false f);
-  cleared-stopped = λ wanted partial asked reported answers e f. absurd (true≢false f);
-  stopped-sleep = λ wanted partial asked reported answers e f. absurd (true≢false f);
-  stopped-standby = λ wanted partial asked reported answers e f. absurd (true≢false f);
-  standby-sleep = λ wanted partial asked reported answers e f. absurd (true≢false f);
-  sleep-standby = λ wanted partial asked reported answers e f. absurd (true≢false f);
-  sleep-check = λ wanted partial asked reported answers e f. absurd (true≢false f);
-  sleep-again = λ wanted partial asked reported answers e f. absurd (true≢false f);
-  again-clear = λ wanted partial asked reported answers e f. absurd (true≢false f);
+  counts = λ step next wanted q r g partial asked reported answers e f. e (q .quiet);
+  passes = λ step wanted q g partial asked reported answers e f. (refl, refl, refl);
+  fills = λ step wanted q partial asked reported answers e f. (refl, refl, refl);
+  starts = λ step wanted d a partial asked reported answers e f. (refl, refl, refl);
+  silences = λ step wanted q partial asked reported answers e f. (refl, refl, refl);
+  waits = λ step wanted d a g partial asked reported answers e f. (refl, refl, refl);
+  goes-down = λ step o partial asked reported answers e f. absurd (true≢false (sym (first-down-asks partial) ∙ f));
+  ends = λ step wanted u partial asked reported answers e f. (refl, refl, refl);
+  enters = λ step next wanted a u g partial asked reported answers e f. absurd (true≢false (sym a ∙ f));
 }
 
-slots-kept : (k : ℕ) (b : Bool) (answers : List Heard) → answers ≡ padded 4 (heard Answer.Pending) (take k answers)
-    → cond b answers blankAnswers ≡ padded 4 (heard Answer.Pending) (take k (cond b answers blankAnswers))
+slots-kept : (k : ℕ) (b : Bool) (answers : List Heard) → answers ≡ padded 4 (heard LastAnswer.Pending) (take k answers)
+    → cond b answers blankAnswers ≡ padded 4 (heard LastAnswer.Pending) (take k (cond b answers blankAnswers))
 slots-kept k true answers e = e
 slots-kept k false answers e = blank-slots k
 
@@ -194,14 +137,16 @@ start-kept n = record {
 }
 
 -- whatever a tick finds done, refused and reached
-pub move-kept : (n : Network) (s : State) (done refused reached : Bool) (outfit : Outfit) → Kept n s → Kept n (afterMove n s (decision (s .step) (s .wanted) done refused reached outfit))
+pub move-kept : (n : Network) (s : State) (done refused reached : Bool) (outfit : Outfit) →
+    Kept n s → Kept n (afterMove n s (decision (s .step) (s .wanted) done refused reached outfit))
 unfolding afterMove
 move-kept n s done refused reached outfit k =
     let m = decision (s .step) (s .wanted) done refused reached outfit in
-    let form = by-move FormFits form-fits (s .step) (s .wanted) done refused reached outfit (n .partial) (s .asked) (s .reported) (s .answers) (λ f. (k .asked f, k .answers f, k .reported f)) in
+    let form = by-move FormFits done (form-fits done) (s .step) (s .wanted) refused reached outfit (n .partial)
+    (s .asked) (s .reported) (s .answers) (λ f. (k .asked f, k .answers f, k .reported f)) in
     record {
-      told = by-move ToldFits told-fits (s .step) (s .wanted) done refused reached outfit (s .told) (n .partial) (k .told);
-      wanted = by-move WantedFits wanted-fits (s .step) (s .wanted) done refused reached outfit (n .partial) (k .wanted);
+      told = by-move ToldFits done (told-fits done) (s .step) (s .wanted) refused reached outfit (s .told) (n .partial) (k .told);
+      wanted = by-move WantedFits done (wanted-fits done) (s .step) (s .wanted) refused reached outfit (n .partial) (k .wanted);
       asked = λ f. form f .0;
       answers = λ f. form f .1;
       reported = λ f. form f .2;
@@ -273,15 +218,17 @@ report-kept n s report e k =
     }
 
 -- the slot of a controller lies among those in use
-slot-used : (n : Network) (s : State) (id : ℕ) → InRange n → Kept n s → member id (controllersOf n) ≡ true → first (λ (x : ℕ). eqb x id) (controllersOf n) < length (heardOf n s)
+slot-used : (n : Network) (s : State) (id : ℕ) →
+    InRange n → Kept n s → member id (controllersOf n) ≡ true → first (λ (x : ℕ). eqb x id) (controllersOf n) < length (heardOf n s)
 slot-used n s id g k e =
     let c : length (controllersOf n) ≡ n .count = padded-count 4 0 (n .controllers) (n .count) (g .few-controllers) (g .blank-slots) in
-    let h : length (heardOf n s) ≡ n .count = padded-count 4 (heard Answer.Pending) (s .answers) (n .count) (g .few-controllers) (k .slots) in
+    let h : length (heardOf n s) ≡ n .count = padded-count 4 (heard LastAnswer.Pending) (s .answers) (n .count) (g .few-controllers) (k .slots) in
     let f = first-below (λ (x : ℕ). eqb x id) (controllersOf n) e in
     omega arith
 
-answer-by : (n : Network) (s : State) (id mode : ℕ) (ok b : Bool) → InRange n → takesReport s (Report.Controller mode) ≡ true → Kept n s → member id (controllersOf n) ≡ b
-    → Kept n (cond b (withAnswers s (set (s .answers) (first (λ (x : ℕ). eqb x id) (controllersOf n)) (heard (answerOf ok)))) s)
+answer-by : (n : Network) (s : State) (id mode : ℕ) (ok b : Bool) →
+    InRange n → takesReport s (Report.Controller mode) ≡ true → Kept n s → member id (controllersOf n) ≡ b →
+    Kept n (cond b (withAnswers s (set (s .answers) (first (λ (x : ℕ). eqb x id) (controllersOf n)) (heard (answerOf ok)))) s)
 answer-by n s id mode ok false g e k f = k
 answer-by n s id mode ok true g e k f =
     let a = taken-asks s (Report.Controller mode) e in
@@ -291,9 +238,10 @@ answer-by n s id mode ok true g e k f =
       asked = k .asked;
       answers = λ d. absurd (true≢false (sym a ∙ d));
       reported = k .reported;
-      slots = padded-store 4 (heard Answer.Pending) (heard (answerOf ok)) (s .answers) (n .count) _ (k .slots) (slot-used n s id g k f);
+      slots = padded-store 4 (heard LastAnswer.Pending) (heard (answerOf ok)) (s .answers) (n .count) _ (k .slots) (slot-used n s id g k f);
     }
 
-pub answer-kept : (n : Network) (s : State) (id mode : ℕ) (ok : Bool) → InRange n → takesReport s (Report.Controller mode) ≡ true → Kept n s → Kept n (afterAnswer n s id ok)
+pub answer-kept : (n : Network) (s : State) (id mode : ℕ) (ok : Bool) →
+    InRange n → takesReport s (Report.Controller mode) ≡ true → Kept n s → Kept n (afterAnswer n s id ok)
 unfolding afterAnswer
 answer-kept n s id mode ok g e k = answer-by n s id mode ok (member id (controllersOf n)) g e k refl

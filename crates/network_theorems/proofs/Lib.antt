@@ -1,3 +1,4 @@
 pub mod Moves
 pub mod Kept
 pub mod Theorems
+pub mod Parts

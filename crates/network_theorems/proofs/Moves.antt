@@ -1,106 +1,138 @@
--- The moves that a tick can make from each step, once: whatever holds of each of them holds of every decision. Assumes nothing.
-use Prim.Native.Nat.{ℕ}
-use mathlib.Core.Path.{_≡_, refl}
-use mathlib.Core.Bool.{Bool, true, false, cond}
+-- The moves that a tick can make, once: whatever holds of each of them holds of every decision.
+use Rattle.lists.proofs.Basics.{_≡_, refl, Bool, true, false, cond, false≢true}
 use Rattle.records.specs.declared.Mode.{Mode}
 use Rattle.steps.specs.declared.Step.{Step}
-use Rattle.steps.specs.declared.Step.the-variants.{NoCommunication, TransceiverNormal, ControllersStopped, ControllersStarted, Checking, Full, Restarting, Waiting, Silent, ClearWake, DownStopped, TransceiverStandby, ControllersSleep, CheckWake, CheckWakeAgain}
+use Rattle.steps.specs.declared.Step.the-variants.{NoCommunication, TransceiverNormal, ControllersStopped, ControllersStarted}
+use Rattle.steps.specs.declared.Step.the-variants.{Checking, Full, Restarting, Waiting, Silent}
+use Rattle.steps.specs.declared.Step.the-variants.{ClearWake, DownStopped, TransceiverStandby, ControllersSleep, CheckWake, CheckWakeAgain}
 use Rattle.steps.specs.declared.Outfit.{Outfit}
 use Rattle.steps.specs.declared.Outfit.the-variants.{Bare, Fitted, Partial}
 use Rattle.steps.specs.declared.Move.{Move}
 use Rattle.steps.specs.declared.Move.the-variants.{Stay, AskAgain, Count, EnterFull, EnterSilent, Pass, Wait, GoDown, EnterNoCommunication, Enter}
-use Rattle.steps.specs.Decision.{isOn, goesOn, decision}
-use Rattle.network_theorems.specs.Kept.{isAsking}
+use Rattle.steps.specs.Steps.{asksFor, isOn, isUp, isFullStep, isAsking, asksToStart}
+use Rattle.steps.specs.Decision.{byMode, byPartial, byTransceiver, whenDone, ruleOf, decision}
+use Rattle.network_theorems.specs.Kept.{Quiet}
 
--- P step wanted move, for each step and each move that it can make
-pub record ByMove (P : Step → Mode → Move → Type 0) : Type 0 where
+-- P step wanted move, for each kind of move, with what is known of the steps that it leaves and enters, and where a step is left because it is
+-- done, that it is
+pub record ByMove (done : Bool) (P : Step → Mode → Move → Type 0) : Type 0 where
   pub stays : (step : Step) (wanted : Mode) → P step wanted Stay
   pub asks-again : (step : Step) (wanted : Mode) → isAsking step ≡ true → P step wanted AskAgain
-  pub checking-counts : (t : ℕ) (wanted : Mode) → P (Checking t) wanted Count
-  pub waiting-counts : (t : ℕ) (wanted : Mode) → P (Waiting t) wanted Count
-  pub passes : (t : ℕ) (wanted : Mode) → P (Checking t) wanted Pass
-  pub started-full : (wanted : Mode) → P ControllersStarted wanted EnterFull
-  pub waiting-full : (t : ℕ) (wanted : Mode) → P (Waiting t) wanted EnterFull
-  pub silent-full : P Silent Mode.Full EnterFull
-  pub checking-silent : (t : ℕ) → P (Checking t) Mode.Silent EnterSilent
-  pub full-silent : P Full Mode.Silent EnterSilent
-  pub waiting-silent : (t : ℕ) → P (Waiting t) Mode.Silent EnterSilent
-  pub waits : (wanted : Mode) → P Restarting wanted Wait
+  -- 4 and 7, to themselves
+  pub counts : (step next : Step) (wanted : Mode) → Quiet step → Quiet next → isFullStep next ≡ isFullStep step → P step wanted (Count next)
+  -- 4
+  pub passes : (step : Step) (wanted : Mode) → Quiet step → isFullStep step ≡ true → P step wanted Pass
+  -- 7 and 8
+  pub fills : (step : Step) (wanted : Mode) → Quiet step → P step wanted EnterFull
+  -- 3
+  pub starts : (step : Step) (wanted : Mode) → done ≡ true → asksToStart (asksFor step) ≡ true → P step wanted EnterFull
+  -- 4, 5 and 7
+  pub silences : (step : Step) (wanted : Mode) → Quiet step → P step wanted EnterSilent
+  -- 6
+  pub waits : (step : Step) (wanted : Mode) → done ≡ true → asksToStart (asksFor step) ≡ true → isFullStep step ≡ false → P step wanted Wait
+  -- 1 to 8
   pub goes-down : (step : Step) → isOn step ≡ true → P step Mode.No GoDown
-  pub standby-ends : (wanted : Mode) → P TransceiverStandby wanted EnterNoCommunication
-  pub sleep-ends : (wanted : Mode) → P ControllersSleep wanted EnterNoCommunication
-  pub check-ends : (wanted : Mode) → P CheckWake wanted EnterNoCommunication
-  pub to-normal : P NoCommunication Mode.Full (Enter TransceiverNormal)
-  pub to-stopped : P NoCommunication Mode.Full (Enter ControllersStopped)
-  pub normal-stopped : (wanted : Mode) → P TransceiverNormal wanted (Enter ControllersStopped)
-  pub stopped-started : (wanted : Mode) → P ControllersStopped wanted (Enter ControllersStarted)
-  pub cleared-stopped : (wanted : Mode) → P ClearWake wanted (Enter DownStopped)
-  pub stopped-sleep : (wanted : Mode) → P DownStopped wanted (Enter ControllersSleep)
-  pub stopped-standby : (wanted : Mode) → P DownStopped wanted (Enter TransceiverStandby)
-  pub standby-sleep : (wanted : Mode) → P TransceiverStandby wanted (Enter ControllersSleep)
-  pub sleep-standby : (wanted : Mode) → P ControllersSleep wanted (Enter TransceiverStandby)
-  pub sleep-check : (wanted : Mode) → P ControllersSleep wanted (Enter CheckWake)
-  pub sleep-again : (wanted : Mode) → P ControllersSleep wanted (Enter CheckWakeAgain)
-  pub again-clear : (wanted : Mode) → P CheckWakeAgain wanted (Enter ClearWake)
+  -- the last down step
+  pub ends : (step : Step) (wanted : Mode) → isUp step ≡ false → P step wanted EnterNoCommunication
+  -- coming up and going down: from an asking step, or from 0, to the next
+  pub enters : (step next : Step) (wanted : Mode) → isAsking next ≡ true → isUp next ≡ isUp step → isFullStep next ≡ isFullStep step
+      → P step wanted (Enter next)
 
-module _ (P : Step → Mode → Move → Type 0) (by : ByMove P) where
-  done-or-again : (step : Step) (wanted : Mode) (done : Bool) (m : Move) → isAsking step ≡ true → P step wanted m → P step wanted (cond done m AskAgain)
-  done-or-again step wanted true m e p = p
-  done-or-again step wanted false m e p = by .asks-again step wanted e
+module _ (P : Step → Mode → Move → Type 0) (done : Bool) (by : ByMove done P) where
+  -- ---- what the rules are put together from
+  either : {step : Step} {wanted : Mode} (test : Bool) (x y : Move) → P step wanted x → P step wanted y → P step wanted (cond test x y)
+  either true x y p q = p
+  either false x y p q = q
 
-  either : (step : Step) (wanted : Mode) (b : Bool) (x y : Move) → P step wanted x → P step wanted y → P step wanted (cond b x y)
-  either step wanted true x y p q = p
-  either step wanted false x y p q = q
+  by-mode : {step : Step} {wanted : Mode} (mode : Mode) (x y z : Move) → P step wanted x → P step wanted y → P step wanted z
+      → P step wanted (byMode mode x y z)
+  by-mode Mode.No x y z p q r = p
+  by-mode Mode.Silent x y z p q r = q
+  by-mode Mode.Full x y z p q r = r
 
-  going-on : (step : Step) (wanted : Mode) (done refused reached : Bool) (outfit : Outfit) → P step wanted (goesOn step wanted done refused reached outfit)
-  going-on NoCommunication Mode.No done refused reached outfit = by .stays NoCommunication Mode.No
-  going-on NoCommunication Mode.Silent done refused reached outfit = by .stays NoCommunication Mode.Silent
-  going-on NoCommunication Mode.Full done refused reached Bare = by .to-stopped
-  going-on NoCommunication Mode.Full done refused reached Fitted = by .to-normal
-  going-on NoCommunication Mode.Full done refused reached Partial = by .to-normal
-  going-on TransceiverNormal wanted done refused reached outfit = done-or-again TransceiverNormal wanted done _ refl (by .normal-stopped wanted)
-  going-on ControllersStopped wanted done refused reached outfit = done-or-again ControllersStopped wanted done _ refl (by .stopped-started wanted)
-  going-on ControllersStarted wanted done refused reached outfit = done-or-again ControllersStarted wanted done _ refl (by .started-full wanted)
-  going-on (Checking t) Mode.No done refused reached outfit = either (Checking t) Mode.No reached _ _ (by .passes t Mode.No) (by .checking-counts t Mode.No)
-  going-on (Checking t) Mode.Silent done refused reached outfit = by .checking-silent t
-  going-on (Checking t) Mode.Full done refused reached outfit = either (Checking t) Mode.Full reached _ _ (by .passes t Mode.Full) (by .checking-counts t Mode.Full)
-  going-on Full Mode.No done refused reached outfit = by .stays Full Mode.No
-  going-on Full Mode.Silent done refused reached outfit = by .full-silent
-  going-on Full Mode.Full done refused reached outfit = by .stays Full Mode.Full
-  going-on Restarting wanted done refused reached outfit = done-or-again Restarting wanted done _ refl (by .waits wanted)
-  going-on (Waiting t) Mode.No done refused reached outfit = either (Waiting t) Mode.No reached _ _ (by .waiting-full t Mode.No) (by .waiting-counts t Mode.No)
-  going-on (Waiting t) Mode.Silent done refused reached outfit = either (Waiting t) Mode.Silent reached _ _ (by .waiting-silent t) (by .waiting-counts t Mode.Silent)
-  going-on (Waiting t) Mode.Full done refused reached outfit = either (Waiting t) Mode.Full reached _ _ (by .waiting-full t Mode.Full) (by .waiting-counts t Mode.Full)
-  going-on Silent Mode.No done refused reached outfit = by .stays Silent Mode.No
-  going-on Silent Mode.Silent done refused reached outfit = by .stays Silent Mode.Silent
-  going-on Silent Mode.Full done refused reached outfit = by .silent-full
-  going-on ClearWake wanted done refused reached Bare = done-or-again ClearWake wanted done _ refl (by .stays ClearWake wanted)
-  going-on ClearWake wanted done refused reached Fitted = done-or-again ClearWake wanted done _ refl (by .stays ClearWake wanted)
-  going-on ClearWake wanted done refused reached Partial = done-or-again ClearWake wanted done _ refl (by .cleared-stopped wanted)
-  going-on DownStopped wanted done refused reached Bare = done-or-again DownStopped wanted done _ refl (by .stopped-sleep wanted)
-  going-on DownStopped wanted done refused reached Fitted = done-or-again DownStopped wanted done _ refl (by .stopped-sleep wanted)
-  going-on DownStopped wanted done refused reached Partial = done-or-again DownStopped wanted done _ refl (by .stopped-standby wanted)
-  going-on TransceiverStandby wanted done refused reached Bare = done-or-again TransceiverStandby wanted done _ refl (by .standby-ends wanted)
-  going-on TransceiverStandby wanted done refused reached Fitted = done-or-again TransceiverStandby wanted done _ refl (by .standby-ends wanted)
-  going-on TransceiverStandby wanted done refused reached Partial = done-or-again TransceiverStandby wanted done _ refl (by .standby-sleep wanted)
-  going-on ControllersSleep wanted done refused reached Bare = done-or-again ControllersSleep wanted done _ refl (by .sleep-ends wanted)
-  going-on ControllersSleep wanted done refused reached Fitted = done-or-again ControllersSleep wanted done _ refl (by .sleep-standby wanted)
-  going-on ControllersSleep wanted done refused reached Partial =
-      either ControllersSleep wanted refused _ _ (by .sleep-again wanted) (done-or-again ControllersSleep wanted done _ refl (by .sleep-check wanted))
-  going-on CheckWake wanted done refused reached Bare = done-or-again CheckWake wanted done _ refl (by .stays CheckWake wanted)
-  going-on CheckWake wanted done refused reached Fitted = done-or-again CheckWake wanted done _ refl (by .stays CheckWake wanted)
-  going-on CheckWake wanted done refused reached Partial = done-or-again CheckWake wanted done _ refl (by .check-ends wanted)
-  going-on CheckWakeAgain wanted done refused reached Bare = done-or-again CheckWakeAgain wanted done _ refl (by .stays CheckWakeAgain wanted)
-  going-on CheckWakeAgain wanted done refused reached Fitted = done-or-again CheckWakeAgain wanted done _ refl (by .stays CheckWakeAgain wanted)
-  going-on CheckWakeAgain wanted done refused reached Partial = done-or-again CheckWakeAgain wanted done _ refl (by .again-clear wanted)
+  by-partial : {step : Step} {wanted : Mode} (outfit : Outfit) (x y : Move) → P step wanted x → P step wanted y
+      → P step wanted (byPartial outfit x y)
+  by-partial Bare x y p q = p
+  by-partial Fitted x y p q = p
+  by-partial Partial x y p q = q
 
-  first-down : (step : Step) (b : Bool) (m : Move) → isOn step ≡ b → P step Mode.No m → P step Mode.No (cond b GoDown m)
-  first-down step true m e p = by .goes-down step e
-  first-down step false m e p = p
+  by-transceiver : {step : Step} {wanted : Mode} (outfit : Outfit) (x y : Move) → P step wanted x → P step wanted y
+      → P step wanted (byTransceiver outfit x y)
+  by-transceiver Bare x y p q = p
+  by-transceiver Fitted x y p q = q
+  by-transceiver Partial x y p q = q
+
+  when-done : (step : Step) (wanted : Mode) (x : Move) → isAsking step ≡ true → (done ≡ true → P step wanted x) → P step wanted (whenDone done x)
+  when-done step wanted x e p = by-test done refl
+    where
+      by-test : (test : Bool) → done ≡ test → P step wanted (whenDone test x)
+      by-test true d = p d
+      by-test false d = by .asks-again step wanted e
+
+  -- ---- the rules
+  ruled : (step : Step) (wanted : Mode) (refused reached : Bool) (outfit : Outfit) → P step wanted (ruleOf step wanted done refused reached outfit)
+  ruled NoCommunication wanted refused reached outfit =
+      by-mode wanted _ _ _ (by .stays _ _) (by .stays _ _)
+      (by-transceiver outfit _ _ (by .enters _ _ _ refl refl refl) (by .enters _ _ _ refl refl refl))
+  ruled TransceiverNormal wanted refused reached outfit = when-done _ _ _ refl (λ d. by .enters _ _ _ refl refl refl)
+  ruled ControllersStopped wanted refused reached outfit = when-done _ _ _ refl (λ d. by .enters _ _ _ refl refl refl)
+  ruled ControllersStarted wanted refused reached outfit = when-done _ _ _ refl (λ d. by .starts _ _ d refl)
+  ruled (Checking t) wanted refused reached outfit =
+      let quiet : Quiet (Checking t) = record { up = refl; quiet = refl } in
+      let checked = either reached _ _ (by .passes _ wanted quiet refl) (by .counts _ _ wanted quiet (record { up = refl; quiet = refl }) refl) in
+      by-mode wanted _ _ _ checked (by .silences _ _ quiet) checked
+  ruled Full wanted refused reached outfit =
+      by-mode wanted _ _ _ (by .stays _ _) (by .silences _ _ (record { up = refl; quiet = refl })) (by .stays _ _)
+  ruled Restarting wanted refused reached outfit = when-done _ _ _ refl (λ d. by .waits _ _ d refl refl)
+  ruled (Waiting t) wanted refused reached outfit =
+      let quiet : Quiet (Waiting t) = record { up = refl; quiet = refl } in
+      either reached _ _
+      (by-mode wanted _ _ _ (by .fills _ _ quiet) (by .silences _ _ quiet) (by .fills _ _ quiet))
+      (by .counts _ _ _ quiet (record { up = refl; quiet = refl }) refl)
+  ruled Silent wanted refused reached outfit =
+      by-mode wanted _ _ _ (by .stays _ _) (by .stays _ _) (by .fills _ _ (record { up = refl; quiet = refl }))
+  ruled ClearWake wanted refused reached outfit =
+      when-done _ _ _ refl (λ d. by-partial outfit _ _ (by .stays _ _) (by .enters _ _ _ refl refl refl))
+  ruled DownStopped wanted refused reached outfit =
+      when-done _ _ _ refl (λ d. by-partial outfit _ _ (by .enters _ _ _ refl refl refl) (by .enters _ _ _ refl refl refl))
+  ruled TransceiverStandby wanted refused reached outfit =
+      when-done _ _ _ refl (λ d. by-partial outfit _ _ (by .ends _ _ refl) (by .enters _ _ _ refl refl refl))
+  ruled ControllersSleep wanted refused reached outfit =
+      by-partial outfit _ _
+      (when-done _ _ _ refl (λ d. by-transceiver outfit _ _ (by .ends _ _ refl) (by .enters _ _ _ refl refl refl)))
+      (either refused _ _ (by .enters _ _ _ refl refl refl) (when-done _ _ _ refl (λ d. by .enters _ _ _ refl refl refl)))
+  ruled CheckWake wanted refused reached outfit =
+      when-done _ _ _ refl (λ d. by-partial outfit _ _ (by .stays _ _) (by .ends _ _ refl))
+  ruled CheckWakeAgain wanted refused reached outfit =
+      when-done _ _ _ refl (λ d. by-partial outfit _ _ (by .stays _ _) (by .enters _ _ _ refl refl refl))
+
+  -- ---- the decision
+  first-down : (step : Step) (test : Bool) (x : Move) → isOn step ≡ test → P step Mode.No x → P step Mode.No (cond test GoDown x)
+  first-down step true x e p = by .goes-down step e
+  first-down step false x e p = p
 
   -- whatever holds of each move holds of every decision
-  pub by-move : (step : Step) (wanted : Mode) (done refused reached : Bool) (outfit : Outfit) → P step wanted (decision step wanted done refused reached outfit)
+  pub by-move : (step : Step) (wanted : Mode) (refused reached : Bool) (outfit : Outfit)
+      → P step wanted (decision step wanted done refused reached outfit)
   unfolding decision
-  by-move step Mode.No done refused reached outfit = first-down step (isOn step) _ refl (going-on step Mode.No done refused reached outfit)
-  by-move step Mode.Silent done refused reached outfit = going-on step Mode.Silent done refused reached outfit
-  by-move step Mode.Full done refused reached outfit = going-on step Mode.Full done refused reached outfit
+  by-move step Mode.No refused reached outfit = first-down step (isOn step) _ refl (ruled step Mode.No refused reached outfit)
+  by-move step Mode.Silent refused reached outfit = ruled step Mode.Silent refused reached outfit
+  by-move step Mode.Full refused reached outfit = ruled step Mode.Full refused reached outfit
+
+-- a step that is said to be full, 4 or 5, is such a quiet one
+pub full-quiet : (step : Step) → isFullStep step ≡ true → Quiet step
+full-quiet NoCommunication e = absurd (false≢true e)
+full-quiet TransceiverNormal e = absurd (false≢true e)
+full-quiet ControllersStopped e = absurd (false≢true e)
+full-quiet ControllersStarted e = absurd (false≢true e)
+full-quiet (Checking t) e = record { up = refl; quiet = refl }
+full-quiet Full e = record { up = refl; quiet = refl }
+full-quiet Restarting e = absurd (false≢true e)
+full-quiet (Waiting t) e = absurd (false≢true e)
+full-quiet Silent e = absurd (false≢true e)
+full-quiet ClearWake e = absurd (false≢true e)
+full-quiet DownStopped e = absurd (false≢true e)
+full-quiet TransceiverStandby e = absurd (false≢true e)
+full-quiet ControllersSleep e = absurd (false≢true e)
+full-quiet CheckWake e = absurd (false≢true e)
+full-quiet CheckWakeAgain e = absurd (false≢true e)

@@ -1,10 +1,5 @@
--- What the layers above rely on of one network, each theorem with its sentence. docs/PROOFS.md lists them. Assumes nothing.
-use Prim.Native.Nat.{ℕ, _+_, _≤_, _<_}
-use native.Mathlib.Omega.{arith}
-use borrow.Author.Tests.{lt-ltb, le-ltb}
-use mathlib.Core.Path.{_≡_, refl, sym, ap, _∙_}
-use mathlib.Core.Bool.{true, false}
-use lib.ListN.{length}
+-- What the layers above rely on of one network, each theorem with its sentence. docs/PROOFS.md lists them.
+use Rattle.lists.proofs.Basics.{ℕ, _+_, _≤_, _<_, arith, lt-ltb, le-ltb, _≡_, refl, sym, ap, _∙_, true, false, length}
 use Rattle.lists.specs.Lists.{every}
 use Rattle.lists.proofs.Parts.{padded-count}
 use Rattle.records.specs.declared.Mode.{Mode}
@@ -13,6 +8,7 @@ use Rattle.settings.specs.Settings.{controllersOf}
 use Rattle.settings.specs.Good.{InRange}
 use Rattle.steps.specs.declared.Step.{Step}
 use Rattle.steps.specs.declared.Move.{Move}
+use Rattle.steps.specs.Steps.{isFullStep}
 use Rattle.handing.specs.Handing.{ownRecord}
 use Rattle.handing.proofs.Laws.{length-move, move-own, recovery-own}
 use Rattle.network.specs.declared.Hit.{Hit}
@@ -21,7 +17,7 @@ use Rattle.network.specs.State.{blankAnswers}
 use Rattle.network.specs.Rules.{delayOf, moveOf}
 use Rattle.network.specs.Moving.{afterMove, tickRecords}
 use Rattle.network.specs.BusOff.{hitRecords, madeAnew, afterHit}
-use Rattle.network_theorems.specs.Kept.{isFullMode, isFullStep, Kept}
+use Rattle.network_theorems.specs.Kept.{isFullMode, Kept}
 
 -- ---- records handed out
 -- a tick hands out at most c + 2 records for a network of c controllers
@@ -71,12 +67,14 @@ delay-short n count h = rw (le-ltb (n .threshold) count h) refl
 
 -- ---- answers
 -- entering an asking step forgets the answers and counts as asked
-pub entering-forgets : (n : Network) (s : State) (next : Step) → (afterMove n s (Move.Enter next) .answers ≡ blankAnswers) × (afterMove n s (Move.Enter next) .asked ≡ true)
+pub entering-forgets : (n : Network) (s : State) (next : Step) →
+    (afterMove n s (Move.Enter next) .answers ≡ blankAnswers) × (afterMove n s (Move.Enter next) .asked ≡ true)
 unfolding afterMove
 entering-forgets n s next = (refl, refl)
 
 -- sending again keeps them
-pub asking-again-keeps : (n : Network) (s : State) → (afterMove n s Move.AskAgain .answers ≡ s .answers) × (afterMove n s Move.AskAgain .asked ≡ true)
+pub asking-again-keeps : (n : Network) (s : State) →
+    (afterMove n s Move.AskAgain .answers ≡ s .answers) × (afterMove n s Move.AskAgain .asked ≡ true)
 unfolding afterMove
 asking-again-keeps n s = (refl, refl)
 

@@ -11,10 +11,13 @@ use Rattle.records.specs.Records.{handed}
 use Rattle.settings.specs.declared.Transceiver.{Transceiver}
 use Rattle.settings.specs.declared.Network.{Network}
 use Rattle.steps.specs.declared.Step.{Step}
-use Rattle.steps.specs.declared.Step.the-variants.{NoCommunication, TransceiverNormal, ControllersStopped, ControllersStarted, Checking, Full, Restarting, Waiting, Silent, ClearWake, DownStopped, TransceiverStandby, ControllersSleep, CheckWake, CheckWakeAgain}
+use Rattle.steps.specs.declared.Step.the-variants.{NoCommunication, TransceiverNormal, ControllersStopped, ControllersStarted}
+use Rattle.steps.specs.declared.Step.the-variants.{Checking, Full, Restarting, Waiting, Silent}
+use Rattle.steps.specs.declared.Step.the-variants.{ClearWake, DownStopped, TransceiverStandby, ControllersSleep, CheckWake, CheckWakeAgain}
 use Rattle.steps.specs.Decision.{decision}
 use Rattle.handing.specs.Handing.{requests, entering, enteringFull, enteringSilent, downNotices, goingDown, moveRecords}
-use Rattle.network.specs.declared.Answer.{Answer}
+use Rattle.network.specs.declared.LastAnswer.{LastAnswer}
+use Rattle.network.specs.declared.LastAnswer.the-variants.{Pending, Okay, Refused}
 use Rattle.network.specs.declared.State.{State}
 use Rattle.network.specs.State.{heard}
 use Rattle.network.specs.Rules.{isDone, delayOf, moveOf}
@@ -23,7 +26,17 @@ use Rattle.network.specs.Moving.{afterMove, tickState, tickRecords}
 -- ---- three networks: handle 7, controllers 3 and 4, delays 2 and 5, ensure time 3, threshold 1
 abbrev network : Transceiver → Bool → Network
 network transceiver partial =
-    record { handle = 7; controllers = 3 ∷ 4 ∷ 0 ∷ 0 ∷ []; count = 2; transceiver = transceiver; short = 2; long = 5; ensure = 3; threshold = 1; partial = partial }
+    record {
+      handle = 7;
+      controllers = 3 ∷ 4 ∷ 0 ∷ 0 ∷ [];
+      count = 2;
+      transceiver = transceiver;
+      short = 2;
+      long = 5;
+      ensure = 3;
+      threshold = 1;
+      partial = partial;
+    }
 
 -- without transceiver: up from step 2, down by 10 and 12
 abbrev bare : Network
@@ -38,25 +51,37 @@ abbrev partial : Network
 partial = network (Transceiver.Present 6) true
 
 -- a record: step, wanted and told mode, bus-off count, asked, the answers of the two controllers, the report
-abbrev at : Step → Mode → Mode → ℕ → Bool → Answer → Answer → Bool → State
+abbrev at : Step → Mode → Mode → ℕ → Bool → LastAnswer → LastAnswer → Bool → State
 at step wanted told count asked first second reported =
-    record { step = step; wanted = wanted; told = told; count = count; asked = asked; answers = heard first ∷ heard second ∷ heard Answer.Pending ∷ heard Answer.Pending ∷ []; reported = reported }
+    record {
+      step = step;
+      wanted = wanted;
+      told = told;
+      count = count;
+      asked = asked;
+      answers = heard first ∷ heard second ∷ heard Pending ∷ heard Pending ∷ [];
+      reported = reported;
+    }
 
 -- a step that has not asked; one that has, and heard nothing; one that has, with both controllers' ok; one with its report
 abbrev quiet : Step → Mode → Mode → ℕ → State
-quiet step wanted told count = at step wanted told count false Answer.Pending Answer.Pending false
+quiet step wanted told count = at step wanted told count false Pending Pending false
 
 -- asked, and no answer and no report has come
 abbrev asking : Step → Mode → Mode → ℕ → State
-asking step wanted told count = at step wanted told count true Answer.Pending Answer.Pending false
+asking step wanted told count = at step wanted told count true Pending Pending false
 
 -- asked, and both controllers answered ok: a controller step is done
 abbrev agreed : Step → Mode → Mode → ℕ → State
-agreed step wanted told count = at step wanted told count true Answer.Okay Answer.Okay false
+agreed step wanted told count = at step wanted told count true Okay Okay false
 
 -- asked, and the report has come: a transceiver, clear or check step is done
 abbrev told-so : Step → Mode → Mode → ℕ → State
-told-so step wanted told count = at step wanted told count true Answer.Pending Answer.Pending true
+told-so step wanted told count = at step wanted told count true Pending Pending true
+
+-- asked, with these answers of the two controllers
+abbrev answered : Step → Mode → Mode → LastAnswer → LastAnswer → State
+answered step wanted told first second = at step wanted told 0 true first second false
 
 -- one tick of one network: its settings, its record before, what is handed out, its record after
 pub record Case : Type 0 where
@@ -73,6 +98,14 @@ case n before records after = record { settings = n; before = before; records = 
 abbrev both : ℕ → ℕ → List Record
 both kind argument = handed kind 3 argument ∷ handed kind 4 argument ∷ []
 
+-- what entering full hands out
+abbrev full : List Record
+full = both 3 0 ++ (handed 6 7 2 ∷ handed 7 7 2 ∷ [])
+
+-- what entering silent hands out
+abbrev silent : List Record
+silent = both 3 1 ++ (handed 6 7 1 ∷ handed 7 7 1 ∷ [])
+
 -- above each group stands the rule that it shows
 abbrev pub examples : List Case
 examples =
@@ -88,13 +121,13 @@ examples =
     -- "1 done to 2; 2 done to 3; 3 done, enter full." "Enter full: 3 online for each, 6 full, 7 full, tick count 0, step 4."
     ∷ case fitted (told-so TransceiverNormal Mode.Full Mode.No 0) (both 1 0) (asking ControllersStopped Mode.Full Mode.No 0)
     ∷ case fitted (agreed ControllersStopped Mode.Full Mode.No 0) (both 1 1) (asking ControllersStarted Mode.Full Mode.No 0)
-    ∷ case fitted (agreed ControllersStarted Mode.Full Mode.No 0) (both 3 0 ++ (handed 6 7 2 ∷ handed 7 7 2 ∷ [])) (quiet (Checking 0) Mode.Full Mode.Full 0)
+    ∷ case fitted (agreed ControllersStarted Mode.Full Mode.No 0) full (quiet (Checking 0) Mode.Full Mode.Full 0)
     -- "A later tick, if it isn't done, sends them all again and sets asked; what is already answered stays."
-    ∷ case bare (at ControllersStarted Mode.Full Mode.No 0 true Answer.Okay Answer.Pending false) (both 1 1) (at ControllersStarted Mode.Full Mode.No 0 true Answer.Okay Answer.Pending false)
+    ∷ case bare (answered ControllersStarted Mode.Full Mode.No Okay Pending) (both 1 1) (answered ControllersStarted Mode.Full Mode.No Okay Pending)
     ∷ case bare (quiet Restarting Mode.Full Mode.Silent 1) (both 1 1) (asking Restarting Mode.Full Mode.Silent 1)
     -- "4 and 5: wanted silent, enter silent." "Enter silent: 3 TX offline for each, 6 silent, 7 silent, step 8."
-    ∷ case bare (quiet (Checking 2) Mode.Silent Mode.Full 1) (both 3 1 ++ (handed 6 7 1 ∷ handed 7 7 1 ∷ [])) (quiet Silent Mode.Silent Mode.Silent 1)
-    ∷ case bare (quiet Full Mode.Silent Mode.Full 0) (both 3 1 ++ (handed 6 7 1 ∷ handed 7 7 1 ∷ [])) (quiet Silent Mode.Silent Mode.Silent 0)
+    ∷ case bare (quiet (Checking 2) Mode.Silent Mode.Full 1) silent (quiet Silent Mode.Silent Mode.Silent 1)
+    ∷ case bare (quiet Full Mode.Silent Mode.Full 0) silent (quiet Silent Mode.Silent Mode.Silent 0)
     -- "Else in 4 the tick count rises by one; at the ensure time: 8 passed, count 0, step 5."
     ∷ case bare (quiet (Checking 1) Mode.Full Mode.Full 2) [] (quiet (Checking 2) Mode.Full Mode.Full 2)
     ∷ case bare (quiet (Checking 2) Mode.Full Mode.Full 2) (handed 8 7 0 ∷ []) (quiet Full Mode.Full Mode.Full 0)
@@ -102,12 +135,12 @@ examples =
     ∷ case bare (agreed Restarting Mode.Full Mode.Silent 1) (both 3 1) (quiet (Waiting 0) Mode.Full Mode.Silent 1)
     -- "7: the tick count rises by one; when it reaches L2 (count above threshold) or L1 (otherwise), enter full or silent, as wanted."
     ∷ case bare (quiet (Waiting 0) Mode.Full Mode.Silent 1) [] (quiet (Waiting 1) Mode.Full Mode.Silent 1)
-    ∷ case bare (quiet (Waiting 1) Mode.Full Mode.Silent 1) (both 3 0 ++ (handed 6 7 2 ∷ handed 7 7 2 ∷ [])) (quiet (Checking 0) Mode.Full Mode.Full 1)
+    ∷ case bare (quiet (Waiting 1) Mode.Full Mode.Silent 1) full (quiet (Checking 0) Mode.Full Mode.Full 1)
     ∷ case bare (quiet (Waiting 1) Mode.Full Mode.Silent 2) [] (quiet (Waiting 2) Mode.Full Mode.Silent 2)
-    ∷ case bare (quiet (Waiting 4) Mode.Full Mode.Silent 2) (both 3 0 ++ (handed 6 7 2 ∷ handed 7 7 2 ∷ [])) (quiet (Checking 0) Mode.Full Mode.Full 2)
-    ∷ case bare (quiet (Waiting 1) Mode.Silent Mode.Silent 1) (both 3 1 ++ (handed 6 7 1 ∷ handed 7 7 1 ∷ [])) (quiet Silent Mode.Silent Mode.Silent 1)
+    ∷ case bare (quiet (Waiting 4) Mode.Full Mode.Silent 2) full (quiet (Checking 0) Mode.Full Mode.Full 2)
+    ∷ case bare (quiet (Waiting 1) Mode.Silent Mode.Silent 1) silent (quiet Silent Mode.Silent Mode.Silent 1)
     -- "8: wanted full, enter full."
-    ∷ case bare (quiet Silent Mode.Full Mode.Silent 1) (both 3 0 ++ (handed 6 7 2 ∷ handed 7 7 2 ∷ [])) (quiet (Checking 0) Mode.Full Mode.Full 1)
+    ∷ case bare (quiet Silent Mode.Full Mode.Silent 1) full (quiet (Checking 0) Mode.Full Mode.Full 1)
     ∷ case bare (quiet Silent Mode.Silent Mode.Silent 1) [] (quiet Silent Mode.Silent Mode.Silent 1)
     -- "Without PN: 10 to 12, 12 to 11 or, without transceiver, to 0; 11 to 0." "Enter 0: 6 no."
     ∷ case bare (agreed DownStopped Mode.No Mode.No 0) (both 1 2) (asking ControllersSleep Mode.No Mode.No 0)
@@ -119,8 +152,8 @@ examples =
     ∷ case partial (agreed DownStopped Mode.No Mode.No 0) (handed 2 6 1 ∷ []) (asking TransceiverStandby Mode.No Mode.No 0)
     ∷ case partial (told-so TransceiverStandby Mode.No Mode.No 0) (both 1 2) (asking ControllersSleep Mode.No Mode.No 0)
     -- "In 12, if some controller's last answer is a refusal, 14; else when done, 13. 13 to 0; 14 to 9."
-    ∷ case partial (at ControllersSleep Mode.No Mode.No 0 true Answer.Pending Answer.Refused false) (handed 5 6 0 ∷ []) (asking CheckWakeAgain Mode.No Mode.No 0)
-    ∷ case bare (at ControllersSleep Mode.No Mode.No 0 true Answer.Okay Answer.Refused false) (both 1 2) (at ControllersSleep Mode.No Mode.No 0 true Answer.Okay Answer.Refused false)
+    ∷ case partial (answered ControllersSleep Mode.No Mode.No Pending Refused) (handed 5 6 0 ∷ []) (asking CheckWakeAgain Mode.No Mode.No 0)
+    ∷ case bare (answered ControllersSleep Mode.No Mode.No Okay Refused) (both 1 2) (answered ControllersSleep Mode.No Mode.No Okay Refused)
     ∷ case partial (agreed ControllersSleep Mode.No Mode.No 0) (handed 5 6 0 ∷ []) (asking CheckWake Mode.No Mode.No 0)
     ∷ case partial (told-so CheckWake Mode.Full Mode.No 0) (handed 6 7 0 ∷ []) (quiet NoCommunication Mode.Full Mode.No 0)
     ∷ case partial (told-so CheckWakeAgain Mode.No Mode.No 0) (handed 4 6 0 ∷ []) (asking ClearWake Mode.No Mode.No 0)
@@ -132,5 +165,6 @@ ticked c = case (c .settings) (c .before) (tickRecords (c .settings) (c .before)
 
 -- the definitions give just these records handed out and these records after them
 pub tick-examples : map ticked examples ≡ examples
-unfolding any every decision requests entering enteringFull enteringSilent downNotices goingDown moveRecords isDone delayOf moveOf afterMove tickState tickRecords
+unfolding any every decision requests entering enteringFull enteringSilent downNotices goingDown moveRecords
+    isDone delayOf moveOf afterMove tickState tickRecords
 tick-examples = refl

@@ -7,10 +7,8 @@ use Rattle.records.specs.declared.Mode.{Mode}
 use Rattle.settings.specs.declared.Network.{Network}
 use Rattle.settings.specs.Settings.{mostControllers}
 use Rattle.steps.specs.declared.Step.{Step}
-use Rattle.steps.specs.declared.Step.the-variants.{NoCommunication, TransceiverNormal, ControllersStopped, ControllersStarted, Checking, Full, Restarting, Waiting, Silent, ClearWake, DownStopped, TransceiverStandby, ControllersSleep, CheckWake, CheckWakeAgain}
-use Rattle.steps.specs.declared.Ask.{Ask}
-use Rattle.steps.specs.Steps.{asksFor, isUp}
-use Rattle.network.specs.declared.Answer.{Answer}
+use Rattle.steps.specs.Steps.{isUp, isFullStep, isAsking}
+use Rattle.network.specs.declared.LastAnswer.{LastAnswer}
 use Rattle.network.specs.declared.State.{State}
 use Rattle.network.specs.State.{heard, blankAnswers, heardOf}
 
@@ -20,35 +18,10 @@ isFullMode Mode.No = false
 isFullMode Mode.Silent = false
 isFullMode Mode.Full = true
 
--- steps 4 and 5
-abbrev pub isFullStep : Step → Bool
-isFullStep NoCommunication = false
-isFullStep TransceiverNormal = false
-isFullStep ControllersStopped = false
-isFullStep ControllersStarted = false
-isFullStep (Checking t) = true
-isFullStep Full = true
-isFullStep Restarting = false
-isFullStep (Waiting t) = false
-isFullStep Silent = false
-isFullStep ClearWake = false
-isFullStep DownStopped = false
-isFullStep TransceiverStandby = false
-isFullStep ControllersSleep = false
-isFullStep CheckWake = false
-isFullStep CheckWakeAgain = false
-
--- there is something to ask for: not in steps 0, 4, 5, 7 and 8
-abbrev pub isAsk : Ask → Bool
-isAsk Ask.Nothing = false
-isAsk (Ask.Controllers mode) = true
-isAsk (Ask.Transceiver mode) = true
-isAsk Ask.ClearWake = true
-isAsk Ask.CheckWake = true
-
--- "Asking steps"
-abbrev pub isAsking : Step → Bool
-isAsking step = isAsk (asksFor step)
+-- a step that is up and asks for nothing: 4, 5, 7 and 8
+pub record Quiet (step : Step) : Type 0 where
+  pub up : isUp step ≡ true
+  pub quiet : isAsking step ≡ false
 
 -- it holds of a network's record at the start, and every call keeps it
 pub record Kept (n : Network) (s : State) : Type 0 where
@@ -61,4 +34,4 @@ pub record Kept (n : Network) (s : State) : Type 0 where
   pub answers : isAsking (s .step) ≡ false → s .answers ≡ blankAnswers
   pub reported : isAsking (s .step) ≡ false → s .reported ≡ false
   -- unused slots are pending
-  pub slots : s .answers ≡ padded mostControllers (heard Answer.Pending) (heardOf n s)
+  pub slots : s .answers ≡ padded mostControllers (heard LastAnswer.Pending) (heardOf n s)

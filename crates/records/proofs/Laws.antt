@@ -1,10 +1,6 @@
--- Laws of records in a lent buffer: what is written one after the other, and room for it. Assumes nothing.
-use Prim.Native.Nat.{ℕ, suc, _+_, _*_, _≤_, _<_}
-use mathlib.Core.Path.{_≡_, refl, sym, _∙_, ap}
-use mathlib.Core.List.{List, [], _∷_, _++_}
-use native.Mathlib.Omega.{arith}
-use lib.ListN.{length, getD, take, drop, set, length-append}
-use lib.Seq.{sets, length-sets, sets-eq}
+-- Laws of records in a lent buffer: what is written one after the other, and room for it.
+use Rattle.lists.proofs.Basics.{ℕ, suc, _+_, _*_, _≤_, _<_, _≡_, refl, sym, _∙_, ap, List, [], _∷_, _++_, arith, length, getD, take, drop, set}
+use Rattle.lists.proofs.Basics.{length-append, sets, length-sets, sets-eq}
 use Rattle.lists.proofs.Stores.{sets-append, run-more, length-within}
 use Rattle.records.specs.declared.Record.{Record}
 use Rattle.records.specs.Records.{bytes}
@@ -46,7 +42,8 @@ stored-front l xs h =
     sets-eq (bytes xs) l 0 g ∙ ap (λ (i : ℕ). bytes xs ++ drop i l) f
 
 -- the three stores of one record
-pub stored-one : (l : List ℕ) (k : ℕ) (r : Record) → set (set (set l (3 * k) (r .kind)) (3 * k + 1) (r .target)) (3 * k + 2) (r .argument) ≡ stored l k (r ∷ [])
+pub stored-one : (l : List ℕ) (k : ℕ) (r : Record) →
+    set (set (set l (3 * k) (r .kind)) (3 * k + 1) (r .target)) (3 * k + 2) (r .argument) ≡ stored l k (r ∷ [])
 unfolding stored bytes
 stored-one l k r =
     let e : 3 * k + 1 ≡ suc (3 * k) = omega arith in
@@ -61,7 +58,8 @@ pub wrote-then : {l l' l'' : List ℕ} {k r s : ℕ} {xs ys : List Record} → W
 wrote-then {l} {l'} {l''} {k} {r} {s} {xs} {ys} p q =
     record {
       count = omega (arith, p .count, q .count, length-append xs ys);
-      buffer = q .buffer ∙ ap (λ (b : List ℕ). stored b r ys) (p .buffer) ∙ ap (λ (i : ℕ). stored (stored l k xs) i ys) (p .count) ∙ stored-append l k xs ys;
+      buffer = q .buffer
+          ∙ ap (λ (b : List ℕ). stored b r ys) (p .buffer) ∙ ap (λ (i : ℕ). stored (stored l k xs) i ys) (p .count) ∙ stored-append l k xs ys;
     }
 
 pub wrote-length : {l l' : List ℕ} {k r : ℕ} {xs : List Record} → Wrote l l' k r xs → length l' ≡ length l
@@ -75,7 +73,8 @@ pub room-next : {l l' : List ℕ} {k r : ℕ} {xs : List Record} (ys : List Reco
 room-next {xs = xs} ys h p = record { fits = omega (arith, h .fits, length-append xs ys, p .count, wrote-length p) }
 
 -- ---- the records of each element of a list, one after the other
-module _ {A : Type 0} (run : List A → List Record) (run-append : (l m : List A) → run (l ++ m) ≡ run l ++ run m) (l : List A) (i : ℕ) (d : A) (h : i < length l) where
+module _ {A : Type 0}
+    (run : List A → List Record) (run-append : (l m : List A) → run (l ++ m) ≡ run l ++ run m) (l : List A) (i : ℕ) (d : A) (h : i < length l) where
   module _ {b b₁ : List ℕ} {k r : ℕ} (w : Wrote b b₁ k r (run (take i l))) where
     pub wrote-more : {b₂ : List ℕ} {s : ℕ} → Wrote b₁ b₂ r s (run (getD l i d ∷ [])) → Wrote b b₂ k s (run (take (i + 1) l))
     wrote-more v = rw (run-more run run-append l i d h) (wrote-then w v)

@@ -1,7 +1,8 @@
 // The records handed out: three bytes each, kind, target and argument, from the front of a lent buffer.
 ghost use mathlib.Core.Path.{_≡_};
 ghost use mathlib.Core.List.{[], _∷_};
-ghost use Rattle.records.specs.Records.{controllerNumber, transceiverNumber, pduNumber, modeNumber, noticeNumber, eventNumber, controllerMode, transceiverMode, pduMode, clearWake, checkWake, tells, notes, reports};
+ghost use Rattle.records.specs.Records.{controllerNumber, transceiverNumber, pduNumber, modeNumber, noticeNumber, statusNumber};
+ghost use Rattle.records.specs.Records.{controllerMode, transceiverMode, pduMode, clearWake, checkWake, tells, notes, reports};
 ghost use Rattle.records.specs.Wrote.{Room, Wrote};
 
 // A record handed out.
@@ -133,22 +134,22 @@ impl Notice {
 }
 
 // What the event manager is told.
-pub enum Event {
+pub enum EventStatus {
     Passed,
     Prefailed,
 }
 
-impl Event {
+impl EventStatus {
     pub const PASSED: u8 = 0;
 
     pub const PREFAILED: u8 = 1;
 
     pub fn number(self) -> u8
-        ensures { λ r. ⌜ r ≡ eventNumber self ⌝ }
+        ensures { λ r. ⌜ r ≡ statusNumber self ⌝ }
     {
         match self {
-            Event::Passed => Event::PASSED,
-            Event::Prefailed => Event::PREFAILED,
+            EventStatus::Passed => EventStatus::PASSED,
+            EventStatus::Prefailed => EventStatus::PREFAILED,
         }
     }
 }
@@ -248,13 +249,13 @@ impl Record {
     }
 
     // The event manager is told.
-    pub fn report(handle: u8, event: Event) -> Record
-        ensures { λ r. ⌜ r ≡ reports handle event ⌝ }
+    pub fn report(handle: u8, status: EventStatus) -> Record
+        ensures { λ r. ⌜ r ≡ reports handle status ⌝ }
     {
         Record {
             kind: Record::EVENTS,
             target: handle,
-            argument: event.number(),
+            argument: status.number(),
         }
     }
 }

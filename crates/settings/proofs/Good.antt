@@ -1,11 +1,6 @@
--- Ids that are used once: what the reader tests of each id, and what `Good` says of all of them, are the same. Assumes nothing.
-use Prim.Native.Nat.{ℕ, _+_, _≤_, _<_}
-use native.Mathlib.Omega.{arith}
-use mathlib.Core.Path.{_≡_, refl, sym, ap, subst, _∙_}
-use mathlib.Core.List.{List, [], _∷_, _++_, append-nil, append-assoc}
-use mathlib.Core.Bool.{Bool, true, false, _||_, or-false}
-use lib.ListN.{length}
-use lib.Seq.{append-snoc}
+-- Ids that are used once: what the reader tests of each id, and what `Good` says of all of them, are the same.
+use Rattle.lists.proofs.Basics.{ℕ, _+_, _≡_, refl, sym, ap, subst, _∙_, List, [], _∷_, _++_, append-nil, append-assoc, false, or-false}
+use Rattle.lists.proofs.Basics.{append-snoc}
 use Rattle.lists.specs.Lists.{any}
 use Rattle.lists.proofs.Any.{any-append}
 use Rattle.settings.specs.declared.Transceiver.{Transceiver}
@@ -51,7 +46,8 @@ all-snoc ids (m ∷ ns) n = ap (λ (l : List ℕ). ids m ++ l) (all-snoc ids ns 
 
 -- ---- used
 -- an id is used where its number is one of all the ids of its kind
-used-all : (id : Id) (ids : Network → List ℕ) (x : ℕ) → ((n : Network) → has id n ≡ member x (ids n)) → (ns : List Network) → used id ns ≡ member x (all ids ns)
+used-all : (id : Id) (ids : Network → List ℕ) (x : ℕ) →
+    ((n : Network) → has id n ≡ member x (ids n)) → (ns : List Network) → used id ns ≡ member x (all ids ns)
 unfolding used all any
 used-all id ids x h [] = refl
 used-all id ids x h (n ∷ ns) = rw (h n, used-all id ids x h ns) (sym (any-append _ (ids n) (all ids ns)))

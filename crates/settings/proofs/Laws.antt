@@ -1,10 +1,5 @@
--- Who has an id: found means first, and an id is used where somebody has it. Assumes nothing.
-use Prim.Native.Nat.{ℕ, _<_}
-use native.Mathlib.Omega.{arith}
-use mathlib.Core.Path.{_≡_, refl}
-use mathlib.Core.List.{List}
-use mathlib.Core.Bool.{Bool, true, false, cond}
-use lib.ListN.{length, getD, take}
+-- Who has an id: found means first, and an id is used where somebody has it.
+use Rattle.lists.proofs.Basics.{ℕ, _<_, arith, _≡_, List, Bool, true, false, cond, length, getD, take, refl}
 use Rattle.lists.specs.Lists.{any, first}
 use Rattle.lists.proofs.Any.{any-found, first-found}
 use Rattle.settings.specs.declared.Network.{Network}
@@ -14,7 +9,8 @@ use Rattle.settings.specs.declared.Holder.the-variants.{At, Nobody}
 use Rattle.settings.specs.Settings.{has, used, holderOf}
 
 module _ (id : Id) where
-  pub holder-found : (l : List Network) (i n : ℕ) (d : Network) → any (has id) (take i l) ≡ false → i < n → i < length l → has id (getD l i d) ≡ true → holderOf id (take n l) ≡ At i
+  pub holder-found : (l : List Network) (i n : ℕ) (d : Network) →
+      any (has id) (take i l) ≡ false → i < n → i < length l → has id (getD l i d) ≡ true → holderOf id (take n l) ≡ At i
   unfolding holderOf
   holder-found l i n d e h k f = rw (any-found (has id) l i n d h k f, first-found (has id) l i n d e h k f) refl
 

@@ -4,13 +4,13 @@ use Prim.Native.Nat.{ℕ, _<_, _≤_}
 use mathlib.Core.Path.{_≡_}
 use mathlib.Core.List.{List, [], _∷_, _++_}
 use mathlib.Core.Bool.{Bool, true, false}
-use lib.ListN.{length}
 use Rattle.lists.specs.Lists.{padded}
 use Rattle.settings.specs.declared.Transceiver.{Transceiver}
-use Rattle.settings.specs.declared.Transceiver.the-variants.{Absent, Present}
+use Rattle.settings.specs.declared.Transceiver.the-variants.{Absent}
 use Rattle.settings.specs.declared.Network.{Network}
 use Rattle.settings.specs.declared.Settings.{Settings}
-use Rattle.settings.specs.Settings.{mostNetworks, mostControllers, controllerIds, transceiverIds, thresholds, blankNetwork, networksOf, handlesOf, controllersOf, transceiversOf, member}
+use Rattle.settings.specs.Settings.{mostNetworks, mostControllers, controllerIds, transceiverIds, thresholds, blankNetwork, networksOf}
+use Rattle.settings.specs.Settings.{handlesOf, controllersOf, transceiversOf, member}
 
 -- each of a list is below a limit
 unfoldable pub Below : ℕ → List ℕ → Type 0

@@ -2,7 +2,7 @@
 -- What an array holds past its count is blank and means nothing: all meaning is through `controllersOf` and `networksOf`.
 use Prim.Native.Nat.{ℕ}
 use mathlib.Core.List.{List, [], _∷_}
-use mathlib.Core.Bool.{Bool, true, false, cond}
+use mathlib.Core.Bool.{Bool, false, cond}
 use lib.Dec.{eqb}
 use lib.ListN.{take, replicate}
 use Rattle.lists.specs.Lists.{any, first}
@@ -15,7 +15,7 @@ use Rattle.settings.specs.declared.Id.the-variants.{OfNetwork, OfControl
 use Rattle.settings.specs.declared.Holder.{Holder}
 use Rattle.settings.specs.declared.Holder.the-variants.{At, Nobody}
 
--- "1 to 8 CAN networks", "one to four such fields"
+-- in one sheet: a "ninth network" is refused
 abbrev pub mostNetworks : ℕ
 mostNetworks = 8
 
@@ -23,7 +23,7 @@ mostNetworks = 8
 abbrev pub mostControllers : ℕ
 mostControllers = 4
 
--- ids and thresholds are below these: "controller id, 0 to 31", "transceiver id, 0 to 7", "threshold, 0 to 254"
+-- 32 is the first number that is no controller id
 abbrev pub controllerIds : ℕ
 controllerIds = 32
 
@@ -38,7 +38,17 @@ thresholds = 255
 -- an unused slot: no controller and every time 0, which no sheet can say
 unfoldable pub blankNetwork : Network
 blankNetwork =
-    record { handle = 0; controllers = replicate mostControllers 0; count = 0; transceiver = Absent; short = 0; long = 0; ensure = 0; threshold = 0; partial = false }
+    record {
+      handle = 0;
+      controllers = replicate mostControllers 0;
+      count = 0;
+      transceiver = Absent;
+      short = 0;
+      long = 0;
+      ensure = 0;
+      threshold = 0;
+      partial = false;
+    }
 
 -- no network: what reading begins with, and what stands beside a refusal
 unfoldable pub blankSettings : Settings

@@ -1,5 +1,6 @@
 // The settings: what a sheet says of its networks, the limits, and which network has an id.
 ghost use mathlib.Core.Path.{_≡_};
+ghost use Prim.Native.Nat.{min};
 ghost use Rattle.settings.specs.Settings.{blankNetwork, blankSettings, member, controllersOf, hasTransceiver, has, networksOf, used, holderOf};
 
 // The transceiver of a network. It may be absent.
@@ -71,16 +72,23 @@ impl Network {
         }
     }
 
+    // How many slots for controllers a count uses, never more than there are.
+    pub fn in_use(count: u8) -> u8
+        ensures { λ r. ⌜ r ≡ min count 4 ⌝ }
+    {
+        if (count as usize) < Network::MOST_CONTROLLERS {
+            return count;
+        }
+        Network::MOST_CONTROLLERS as u8
+    }
+
     fn has_controller(self, id: u8) -> bool
         ensures { λ r. ⌜ r ≡ member id (controllersOf self) ⌝ }
     {
-        let count = self.count;
         let ids = self.controllers;
+        let used = Network::in_use(self.count);
         let mut i: u8 = 0;
-        while (i as usize) < Network::MOST_CONTROLLERS {
-            if count <= i {
-                return false;
-            }
+        while i < used {
             if ids[i as usize] == id {
                 return true;
             }
@@ -124,17 +132,24 @@ impl Settings {
         }
     }
 
+    // How many slots for networks a count uses, never more than there are.
+    pub fn in_use(count: u8) -> u8
+        ensures { λ r. ⌜ r ≡ min count 8 ⌝ }
+    {
+        if (count as usize) < Settings::MOST_NETWORKS {
+            return count;
+        }
+        Settings::MOST_NETWORKS as u8
+    }
+
     // The first network that has this id.
     pub fn holder(self, id: Id) -> Holder
         ensures { λ r. ⌜ r ≡ holderOf id (networksOf self) ⌝ }
     {
-        let count = self.count;
         let networks = self.networks;
+        let used = Settings::in_use(self.count);
         let mut i: u8 = 0;
-        while (i as usize) < Settings::MOST_NETWORKS {
-            if count <= i {
-                return Holder::Nobody;
-            }
+        while i < used {
             let network = networks[i as usize];
             if network.has(id) {
                 return Holder::At(i);

@@ -1,9 +1,5 @@
--- The sheet of good settings is bytes. Assumes nothing.
-use Prim.Native.Nat.{ℕ, _/_, _%_, _<_}
-use native.Mathlib.Omega.{arith}
-use mathlib.Core.Path.{_≡_}
-use mathlib.Core.List.{List, [], _∷_}
-use mathlib.Core.Bool.{Bool, true, false}
+-- The sheet of good settings is bytes.
+use Rattle.lists.proofs.Basics.{ℕ, _/_, _%_, _<_, arith, List, [], _∷_, Bool, true, false}
 use Rattle.lists.specs.Lists.{Bytes}
 use Rattle.settings.specs.declared.Transceiver.{Transceiver}
 use Rattle.settings.specs.declared.Transceiver.the-variants.{Absent, Present}

@@ -1,14 +1,9 @@
--- What users of the sheet rely on, each theorem with its sentence. docs/PROOFS.md lists them. Assumes nothing.
-use Prim.Native.Nat.{ℕ, _≤_}
-use borrow.Author.Tests.{le-leb}
-use mathlib.Core.Path.{_≡_, refl, sym, ap, subst, _∙_}
-use mathlib.Core.List.{List}
-use lib.ListN.{length, take, drop}
-use lib.Seq.{take-append-seam}
+-- What users of the sheet rely on, each theorem with its sentence. docs/PROOFS.md lists them.
+use Rattle.lists.proofs.Basics.{ℕ, _≤_, le-leb, _≡_, refl, sym, ap, subst, _∙_, List, length, take, drop, take-append-seam}
 use Rattle.lists.specs.Lists.{Bytes}
 use Rattle.settings.specs.declared.Settings.{Settings}
 use Rattle.settings.specs.Good.{Good}
-use Rattle.sheet.specs.declared.Answer.the-variants.{Accepted}
+use Rattle.sheet.specs.declared.Verdict.the-variants.{Accepted}
 use Rattle.sheet.specs.declared.Reading.{Reading}
 use Rattle.sheet.specs.declared.Written.{Written}
 use Rattle.sheet.specs.declared.Written.the-variants.{Length}
@@ -23,12 +18,14 @@ use Rattle.sheet.proofs.Writes.{encode-length}
 
 -- ---- 1. there and back
 -- what is read from a written sheet is the settings that were written, with the sheet's length as place
-pub write-then-read : (s : Settings) → Good s → decode (encode s) ≡ (let r : Reading = record { answer = Accepted; place = length (encode s); settings = s } in r)
+pub write-then-read : (s : Settings) →
+    Good s → decode (encode s) ≡ (let r : Reading = record { answer = Accepted; place = length (encode s); settings = s } in r)
 write-then-read = Forth.write-then-read
 
 -- the same through a lent buffer that is long enough: the first bytes of it, as many as the writer answers, read as the settings
-pub buffer-then-read : (s : Settings) (before : List ℕ) → Good s → length (encode s) ≤ length before
-    → (written s before ≡ Length (length (encode s))) × (decode (take (length (encode s)) (bufferAfter s before)) .settings ≡ s) × (decode (take (length (encode s)) (bufferAfter s before)) .answer ≡ Accepted)
+pub buffer-then-read : (s : Settings) (before : List ℕ) → Good s → length (encode s) ≤ length before →
+    (written s before ≡ Length (length (encode s))) × (decode (take (length (encode s)) (bufferAfter s before)) .settings ≡ s)
+    × (decode (take (length (encode s)) (bufferAfter s before)) .answer ≡ Accepted)
 unfolding written bufferAfter
 buffer-then-read s before g h =
     let r = write-then-read s g in
@@ -45,7 +42,8 @@ pub one-sheet : (s : Settings) (b : List ℕ) → Bytes b → decode b .answer �
 one-sheet s b w e f = sym (read-then-write b w e) ∙ ap encode f
 
 -- two accepted sheets with the same settings are the same bytes
-pub same-settings-same-bytes : (a b : List ℕ) → Bytes a → Bytes b → decode a .answer ≡ Accepted → decode b .answer ≡ Accepted → decode a .settings ≡ decode b .settings → a ≡ b
+pub same-settings-same-bytes : (a b : List ℕ) →
+    Bytes a → Bytes b → decode a .answer ≡ Accepted → decode b .answer ≡ Accepted → decode a .settings ≡ decode b .settings → a ≡ b
 same-settings-same-bytes a b v w e f g = one-sheet (decode b .settings) a v e g ∙ read-then-write b w f
 
 -- two good settings with the same sheet are the same settings
@@ -61,7 +59,8 @@ accepted-good = Back.accepted-good
 pub accepted-place : (b : List ℕ) → Bytes b → decode b .answer ≡ Accepted → decode b .place ≡ length b
 accepted-place b w e =
     let s = read-then-write b w e in
-    ap (λ (l : List ℕ). decode l .place) (sym s) ∙ ap (λ (r : Reading). r .place) (write-then-read (decode b .settings) (accepted-good b w e)) ∙ ap length s
+    ap (λ (l : List ℕ). decode l .place) (sym s)
+    ∙ ap (λ (r : Reading). r .place) (write-then-read (decode b .settings) (accepted-good b w e)) ∙ ap length s
 
 -- it has 25 to 328 bytes
 pub accepted-length : (b : List ℕ) → Bytes b → decode b .answer ≡ Accepted → (25 ≤ length b) × (length b ≤ 328)
@@ -76,5 +75,6 @@ sheet-bytes = All.sheet-bytes
 pub read-outcome-one : (bytes : List ℕ) (r r′ : Reading) → ReadOutcome bytes r → ReadOutcome bytes r′ → r ≡ r′
 read-outcome-one bytes r r′ p q = p ∙ sym q
 
-pub write-outcome-one : (s : Settings) (before : List ℕ) (r r′ : Written) (after after′ : List ℕ) → WriteOutcome s before r after → WriteOutcome s before r′ after′ → (r ≡ r′) × (after ≡ after′)
+pub write-outcome-one : (s : Settings) (before : List ℕ) (r r′ : Written) (after after′ : List ℕ) →
+    WriteOutcome s before r after → WriteOutcome s before r′ after′ → (r ≡ r′) × (after ≡ after′)
 write-outcome-one s before r r′ after after′ p q = (p .0 ∙ sym (q .0), p .1 ∙ sym (q .1))

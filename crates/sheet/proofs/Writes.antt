@@ -1,11 +1,6 @@
--- Laws of a sheet as bytes: its parts come one after the other, their lengths, and what writing them into a buffer gives. Assumes nothing.
-use Prim.Native.Nat.{ℕ, _+_, _*_, _≤_, _<_}
-use native.Mathlib.Omega.{arith}
-use borrow.Author.Tests.{le-leb, lt-leb}
-use mathlib.Core.Path.{_≡_, refl, sym, ap, _∙_}
-use mathlib.Core.List.{List, [], _∷_, _++_, append-assoc}
-use lib.ListN.{length, drop}
-use lib.Seq.{sets, sets-eq}
+-- Laws of a sheet as bytes: its parts come one after the other, their lengths, and what writing them into a buffer gives.
+use Rattle.lists.proofs.Basics.{ℕ, _+_, _*_, _≤_, _<_, arith, le-leb, _≡_, refl, sym, ap, _∙_, List, [], _∷_, _++_, append-assoc, length, drop, sets}
+use Rattle.lists.proofs.Basics.{sets-eq, lt-leb}
 use Rattle.lists.proofs.Parts.{padded-count}
 use Rattle.settings.specs.declared.Transceiver.{Transceiver}
 use Rattle.settings.specs.declared.Transceiver.the-variants.{Absent, Present}
@@ -86,14 +81,16 @@ unfolding encodeTransceiver
 length-transceiver Absent l = omega arith
 length-transceiver (Present id) l = omega arith
 
-pub length-network : (n : Network) (l : List ℕ) → length (encodeNetwork n l) ≡ 21 + 4 * length (controllersOf n) + length (transceiversOf n) * 4 + length l
+pub length-network : (n : Network) (l : List ℕ) →
+    length (encodeNetwork n l) ≡ 21 + 4 * length (controllersOf n) + length (transceiversOf n) * 4 + length l
 unfolding encodeNetwork
 length-network n l =
     let t : List ℕ = timesField (n .short) (n .long) (n .ensure) (byteField 0x05 (n .threshold) (byteField 0x06 (bit (n .partial)) l)) in
     omega (arith, length-controllers (controllersOf n) (encodeTransceiver (n .transceiver) t), length-transceiver (n .transceiver) t)
 
 -- the same, by the parts whose lengths vary
-pub length-parts : (n : Network) → length (encodeNetwork n []) ≡ 21 + length (encodeControllers (controllersOf n) []) + length (encodeTransceiver (n .transceiver) [])
+pub length-parts : (n : Network) →
+    length (encodeNetwork n []) ≡ 21 + length (encodeControllers (controllersOf n) []) + length (encodeTransceiver (n .transceiver) [])
 length-parts n = omega (arith, length-network n [], length-controllers (controllersOf n) [], length-transceiver (n .transceiver) [])
 
 listed-few : (t : Transceiver) → length (listed t) ≤ 1
@@ -101,12 +98,14 @@ listed-few Absent = omega arith
 listed-few (Present id) = omega arith
 
 -- a network has 25 to 41 bytes: one to four controllers, and perhaps a transceiver
-pub length-networks : (ns : List Network) → EachInRange ns → (25 * length ns ≤ length (encodeNetworks ns [])) × (length (encodeNetworks ns []) ≤ 41 * length ns)
+pub length-networks : (ns : List Network) →
+    EachInRange ns → (25 * length ns ≤ length (encodeNetworks ns [])) × (length (encodeNetworks ns []) ≤ 41 * length ns)
 unfolding encodeNetworks EachInRange
 length-networks [] r = (omega arith, omega arith)
 length-networks (n ∷ ns) r =
     let e = length-networks ns (r .1) in
-    let k : length (controllersOf n) ≡ n .count = padded-count mostControllers 0 (n .controllers) (n .count) (r .0 .few-controllers) (r .0 .blank-slots) in
+    let k : length (controllersOf n) ≡ n .count =
+    padded-count mostControllers 0 (n .controllers) (n .count) (r .0 .few-controllers) (r .0 .blank-slots) in
     let h = r .0 .some-controller in
     let m = r .0 .few-controllers in
     (omega (arith, length-network n (encodeNetworks ns [])), omega (arith, length-network n (encodeNetworks ns []), listed-few (n .transceiver)))
@@ -129,7 +128,8 @@ module _ (s : Settings) (b : List ℕ) where
   refused-untouched h = let t = lt-leb (length (encode s)) (length b) h in (rw t refl, rw t refl)
 
   -- a buffer into which the sheet was stored from the front on is as it should be
-  pub written-from-front : (n : ℕ) (after : List ℕ) → n ≡ length (encode s) → n ≤ length b → after ≡ sets b 0 (encode s) → (Length n ≡ written s b) × (after ≡ bufferAfter s b)
+  pub written-from-front : (n : ℕ) (after : List ℕ) →
+      n ≡ length (encode s) → n ≤ length b → after ≡ sets b 0 (encode s) → (Length n ≡ written s b) × (after ≡ bufferAfter s b)
   unfolding written bufferAfter
   written-from-front n after e h p =
       let t = le-leb (length (encode s)) (length b) (omega arith) in

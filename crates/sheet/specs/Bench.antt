@@ -1,6 +1,15 @@
--- The sheet of the bench cases of document 01. What each case gives is `bench`, in the crate `demands`.
+-- The sheet of the bench cases of document 01, and what a proof has to open that computes with a sheet. What each case gives is `bench`, in the
+-- crate `demands`.
 use Prim.Native.Nat.{ℕ}
 use mathlib.Core.List.{List, [], _∷_}
+use Rattle.lists.specs.Lists.{any}
+use Rattle.fields.specs.Fields.{holds, measured, front, onto, past, rows}
+use Rattle.settings.specs.Settings.{blankNetwork, blankSettings, used}
+use Rattle.entries.specs.Entries.{layoutOf, byteEntry, timesEntry, wholeEntry, fieldEntry}
+use Rattle.entries.specs.Grammar.{opensWith, opens, begun, addController, addTransceiver, addTimes, addThreshold, addPartial}
+use Rattle.entries.specs.Grammar.{onController, onTransceiver, onTimes, onThreshold, onPartial, fills}
+use Rattle.sheet.specs.declared.Reading.{Reading}
+use Rattle.sheet.specs.Reading.{pushed, refusedAt, closed, afterOpening, afterFilling, sheet, readFrom, decode}
 
 -- "B1 to B12 use that 25-byte sheet"
 abbrev pub benchSheet : List ℕ
@@ -10,3 +19,10 @@ benchSheet =
     ∷ 0x04 ∷ 0 ∷ 6 ∷ 0 ∷ 2 ∷ 0 ∷ 5 ∷ 0 ∷ 3
     ∷ 0x05 ∷ 0 ∷ 1 ∷ 1
     ∷ 0x06 ∷ 0 ∷ 1 ∷ 0 ∷ []
+
+-- what a sheet says, with all open that it takes to compute it: `unfolding` of this name opens what stands on its line
+unfoldable pub computedReading : List ℕ → Reading
+unfolding any holds measured front onto past rows blankNetwork blankSettings used layoutOf byteEntry timesEntry wholeEntry fieldEntry opensWith opens
+    begun addController addTransceiver addTimes addThreshold addPartial onController onTransceiver onTimes onThreshold onPartial fills pushed
+    refusedAt closed afterOpening afterFilling sheet readFrom
+computedReading l = decode l

@@ -1,15 +1,15 @@
 -- The numbers of document 01, section "Refusal numbers", for each answer of reading and writing a sheet.
 use Prim.Native.Nat.{ℕ}
 use Rattle.entries.specs.Entries.{faultNumber}
-use Rattle.sheet.specs.declared.Answer.{Answer}
-use Rattle.sheet.specs.declared.Answer.the-variants.{Accepted, Refused}
+use Rattle.sheet.specs.declared.Verdict.{Verdict}
+use Rattle.sheet.specs.declared.Verdict.the-variants.{Accepted, Refused}
 use Rattle.sheet.specs.declared.Written.{Written}
 use Rattle.sheet.specs.declared.Written.the-variants.{Short, Length}
 
 -- "0 means accepted"
-abbrev pub answerNumber : Answer → ℕ
-answerNumber Accepted = 0
-answerNumber (Refused fault) = faultNumber fault
+abbrev pub verdictNumber : Verdict → ℕ
+verdictNumber Accepted = 0
+verdictNumber (Refused fault) = faultNumber fault
 
 -- 20: "the lent buffer is too short"
 abbrev pub writtenNumber : Written → ℕ

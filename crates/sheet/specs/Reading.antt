@@ -13,17 +13,17 @@ use Rattle.entries.specs.declared.Fault.{Fault}
 use Rattle.entries.specs.declared.Fault.the-variants.{Cut, Empty}
 use Rattle.entries.specs.declared.Entry.{Entry}
 use Rattle.entries.specs.declared.Entry.the-variants.{Bad}
-use Rattle.entries.specs.declared.Phase.{Phase}
-use Rattle.entries.specs.declared.Phase.the-variants.{Named}
+use Rattle.entries.specs.declared.Progress.{Progress}
+use Rattle.entries.specs.declared.Progress.the-variants.{Named}
 use Rattle.entries.specs.declared.Opening.{Opening}
 use Rattle.entries.specs.declared.Opening.the-variants.{Closes, Begins, Refuses}
-use Rattle.entries.specs.declared.Move.{Move}
-use Rattle.entries.specs.declared.Move.the-variants.{More, Whole}
-use Rattle.sheet.specs.declared.Answer.{Answer}
-use Rattle.sheet.specs.declared.Answer.the-variants.{Accepted}
+use Rattle.entries.specs.declared.Filling.{Filling}
+use Rattle.entries.specs.declared.Filling.the-variants.{More, Whole}
+use Rattle.sheet.specs.declared.Verdict.{Verdict}
+use Rattle.sheet.specs.declared.Verdict.the-variants.{Accepted}
 use Rattle.sheet.specs.declared.Reading.{Reading}
-use Rattle.entries.specs.Entries.{layoutOf, overrunFault, entryOf}
-use Rattle.entries.specs.Grammar.{begun, opens, goesOn}
+use Rattle.entries.specs.Entries.{layoutOf, overrunFault, fieldEntry}
+use Rattle.entries.specs.Grammar.{begun, opens, fills}
 
 -- the settings with one network more
 unfoldable pub pushed : Settings → Network → Settings
@@ -35,7 +35,7 @@ placeOf fault entry at = at
 
 -- beside a refusal the settings are blank
 unfoldable pub refusedAt : Fault → ℕ → Reading
-refusedAt fault place = record { answer = Answer.Refused fault; place = place; settings = blankSettings }
+refusedAt fault place = record { answer = Verdict.Refused fault; place = place; settings = blankSettings }
 
 -- "At the end, no network at all gives 38 at 0"; "an accepted read gives the number of networks and, as place, the sheet's length"
 unfoldable pub closed : Settings → ℕ → Reading
@@ -48,10 +48,10 @@ afterOpening (Begins handle) s entry at begins = begins handle
 afterOpening (Refuses fault) s entry at begins = refusedAt fault (placeOf fault entry at)
 
 -- what follows in a network: it goes on, it is whole, a refusal
-unfoldable pub afterMove : Move → Network → Entry → ℕ → (Network → Phase → Reading) → (Network → Reading) → Reading
-afterMove (More phase) n entry at more whole = more n phase
-afterMove Whole n entry at more whole = whole n
-afterMove (Move.Refused fault) n entry at more whole = refusedAt fault (placeOf fault entry at)
+unfoldable pub afterFilling : Filling → Network → Entry → ℕ → (Network → Progress → Reading) → (Network → Reading) → Reading
+afterFilling (More progress) n entry at more whole = more n progress
+afterFilling Whole n entry at more whole = whole n
+afterFilling (Filling.Refused fault) n entry at more whole = refusedAt fault (placeOf fault entry at)
 
 -- a field that is laid out wrongly
 abbrev pub badAt : Fault → ℕ → Reading
@@ -64,15 +64,15 @@ unfoldable mutual
   sheet (stop at) s = closed s at
   sheet (stub at tag) s = badAt Cut at
   sheet (overrun at tag n) s = badAt (overrunFault (layoutOf tag n)) at
-  sheet (field at tag v rest) s = afterOpening (opens s (entryOf tag v)) s (entryOf tag v) at (λ handle. network rest s (begun handle) Named)
+  sheet (field at tag v rest) s = afterOpening (opens s (fieldEntry tag v)) s (fieldEntry tag v) at (λ handle. network rest s (begun handle) Named)
 
   -- in a network
-  pub network : Row → Settings → Network → Phase → Reading
-  network (stop at) s n phase = refusedAt Cut at
-  network (stub at tag) s n phase = badAt Cut at
-  network (overrun at tag m) s n phase = badAt (overrunFault (layoutOf tag m)) at
-  network (field at tag v rest) s n phase =
-      afterMove (goesOn s n phase (entryOf tag v) .to) (goesOn s n phase (entryOf tag v) .network) (entryOf tag v) at
+  pub network : Row → Settings → Network → Progress → Reading
+  network (stop at) s n progress = refusedAt Cut at
+  network (stub at tag) s n progress = badAt Cut at
+  network (overrun at tag m) s n progress = badAt (overrunFault (layoutOf tag m)) at
+  network (field at tag v rest) s n progress =
+      afterFilling (fills s n progress (fieldEntry tag v) .filling) (fills s n progress (fieldEntry tag v) .network) (fieldEntry tag v) at
       (λ m next. network rest s m next) (λ m. sheet rest (pushed s m))
 
 -- what the bytes from a place on say

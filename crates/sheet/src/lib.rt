@@ -1,9 +1,9 @@
-// The settings sheet: its fields, reading it and writing it.
+// Reading a settings sheet and writing it.
 mod reader;
 mod writer;
 
 ghost use mathlib.Core.Path.{_≡_};
-ghost use Rattle.sheet.specs.Numbers.{answerNumber, writtenNumber};
+ghost use Rattle.sheet.specs.Numbers.{verdictNumber, writtenNumber};
 use entries::Fault;
 pub use reader::read;
 pub use reader::read_from;
@@ -30,26 +30,27 @@ impl Written {
     }
 }
 
-pub enum Answer {
+// What reading says of a sheet: it is accepted, or why not.
+pub enum Verdict {
     Accepted,
     Refused(Fault),
 }
 
-impl Answer {
-    // The number of this answer.
+impl Verdict {
+    // The number of this verdict.
     pub fn number(self) -> u8
-        ensures { λ r. ⌜ r ≡ answerNumber self ⌝ }
+        ensures { λ r. ⌜ r ≡ verdictNumber self ⌝ }
     {
         match self {
-            Answer::Accepted => 0,
-            Answer::Refused(fault) => fault.number(),
+            Verdict::Accepted => 0,
+            Verdict::Refused(fault) => fault.number(),
         }
     }
 }
 
 // What reading a sheet gives. Beside a refusal the settings are blank.
 pub struct Reading {
-    pub answer: Answer,
+    pub answer: Verdict,
     pub place: usize,
     pub settings: Settings,
 }

@@ -1,11 +1,11 @@
 // Reading a sheet: a sheet is one network and then a sheet or its end, so the two functions call each other.
-use crate::Answer;
 use crate::Reading;
+use crate::Verdict;
 use entries::Entry;
 use entries::Fault;
-use entries::Move;
+use entries::Filling;
 use entries::Opening;
-use entries::Phase;
+use entries::Progress;
 use fields::Reader;
 use settings::Network;
 use settings::Settings;
@@ -27,7 +27,7 @@ fn refuse(fault: Fault, place: usize) -> Reading
 {
     let settings = Settings::blank();
     Reading {
-        answer: Answer::Refused(fault),
+        answer: Verdict::Refused(fault),
         place,
         settings,
     }
@@ -41,7 +41,7 @@ fn close_sheet(settings: Settings, at: usize) -> Reading
         return refuse(Fault::Empty, 0);
     }
     Reading {
-        answer: Answer::Accepted,
+        answer: Verdict::Accepted,
         place: at,
         settings,
     }
@@ -68,28 +68,34 @@ fn read_sheet(bytes: &[u8], at: usize, settings: Settings) -> Reading
         Opening::Closes => close_sheet(settings, at),
         Opening::Begins(handle) => {
             let begun = entries::begin_network(handle);
-            read_network(bytes, found.next, settings, begun, Phase::Named)
+            read_network(bytes, found.next, settings, begun, Progress::Named)
         }
         Opening::Refuses(fault) => refuse(fault, place_of(fault, entry, at)),
     }
 }
 
-fn read_network(bytes: &[u8], at: usize, settings: Settings, part: Network, phase: Phase) -> Reading
+fn read_network(
+    bytes: &[u8],
+    at: usize,
+    settings: Settings,
+    part: Network,
+    progress: Progress,
+) -> Reading
     requires { ⌜ settings .count < 8 ⌝ }
-    ensures { λ r. ⌜ r ≡ network (rowAt (now (bytes .entry)) at) settings part phase ⌝ }
+    ensures { λ r. ⌜ r ≡ network (rowAt (now (bytes .entry)) at) settings part progress ⌝ }
 {
     let found = entries::entry_at(bytes, at);
     let entry = found.entry;
-    let moved = entries::go_on(settings, part, phase, entry);
-    let to = moved.to;
-    let after = moved.network;
-    match to {
-        Move::More(next) => read_network(bytes, found.next, settings, after, next),
-        Move::Whole => {
+    let filled = entries::fill_network(settings, part, progress, entry);
+    let filling = filled.filling;
+    let after = filled.network;
+    match filling {
+        Filling::More(next) => read_network(bytes, found.next, settings, after, next),
+        Filling::Whole => {
             let more = push_network(settings, after);
             read_sheet(bytes, found.next, more)
         }
-        Move::Refused(fault) => refuse(fault, place_of(fault, entry, at)),
+        Filling::Refused(fault) => refuse(fault, place_of(fault, entry, at)),
     }
 }
 

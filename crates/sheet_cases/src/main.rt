@@ -100,20 +100,13 @@ fn write_part(settings: Settings, buffer: &mut [u8], length: usize) -> Written {
     sheet::write(settings, &mut buffer[..length])
 }
 
-fn write_back(case: u64, settings: Settings, length: usize) {
+// Writes the sheet into a buffer of which so many bytes are lent, and shows its first bytes.
+fn put_back(case: u64, name: &[u8], settings: Settings, lent: usize, shown: usize) {
     let mut buffer = filled();
-    let written = sheet::write(settings, &mut buffer);
+    let written = write_part(settings, &mut buffer, lent);
     printing::put_digits(case);
-    printing::put_text(b" write");
-    put_written(written, &buffer, length);
-}
-
-fn write_short(case: u64, settings: Settings, length: usize) {
-    let mut buffer = filled();
-    let written = write_part(settings, &mut buffer, length);
-    printing::put_digits(case);
-    printing::put_text(b" short");
-    put_written(written, &buffer, SHOWN);
+    printing::put_text(name);
+    put_written(written, &buffer, shown);
 }
 
 // The sheet written back into a buffer with room for it, and into one that is a byte too short.
@@ -125,8 +118,8 @@ fn put_sheet(case: u64, settings: Settings) {
     if ROOM < length {
         return;
     }
-    write_back(case, settings, length + AFTER);
-    write_short(case, settings, length - 1);
+    put_back(case, b" write", settings, ROOM, length + AFTER);
+    put_back(case, b" short", settings, length - 1, SHOWN);
 }
 
 fn put_reading(case: u64, reading: Reading) {

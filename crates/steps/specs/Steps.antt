@@ -1,63 +1,138 @@
--- The fifteen steps, from document 01, section "The fifteen steps": their numbers, what each asks for, which are up.
+-- The fifteen steps, from document 01, section "The fifteen steps", as one table: a row for each step. What holds of whole groups of steps
+-- is said of the phase.
 use Prim.Native.Nat.{ℕ}
 use mathlib.Core.Bool.{Bool, true, false}
 use Rattle.records.specs.declared.ControllerMode.{ControllerMode}
 use Rattle.records.specs.declared.TransceiverMode.{TransceiverMode}
 use Rattle.steps.specs.declared.Step.{Step}
-use Rattle.steps.specs.declared.Step.the-variants.{NoCommunication, TransceiverNormal, ControllersStopped, ControllersStarted, Checking, Full, Restarting, Waiting, Silent, ClearWake, DownStopped, TransceiverStandby, ControllersSleep, CheckWake, CheckWakeAgain}
+use Rattle.steps.specs.declared.Step.the-variants.{NoCommunication, TransceiverNormal, ControllersStopped, ControllersStarted}
+use Rattle.steps.specs.declared.Step.the-variants.{Checking, Full, Restarting, Waiting, Silent}
+use Rattle.steps.specs.declared.Step.the-variants.{ClearWake, DownStopped, TransceiverStandby, ControllersSleep, CheckWake, CheckWakeAgain}
+use Rattle.steps.specs.declared.Phase.{Phase}
 use Rattle.steps.specs.declared.Ask.{Ask}
+use Rattle.steps.specs.declared.Timer.{Timer}
+use Rattle.steps.specs.declared.Profile.{Profile}
 
--- "Each network is always in one of fifteen steps": its number, 0 to 14, whatever its tick count is
+-- a row: the number, the phase, what is asked for, what is counted
+abbrev pub row : ℕ → Phase → Ask → Timer → Profile
+row number phase ask timer = record { number = number; phase = phase; ask = ask; timer = timer }
+
+-- "controllers stopped", as a step asks for it
+abbrev stopped : Ask
+stopped = Ask.Controllers ControllerMode.Stopped
+
+-- "controllers started"
+abbrev started : Ask
+started = Ask.Controllers ControllerMode.Started
+
+-- "Each network is always in one of fifteen steps": "1 transceiver normal, 2 controllers stopped, 3 controllers started"; "6 restarting,
+-- controllers started"; "9 clear wake flag; 10 controllers stopped; 11 transceiver standby; 12 controllers sleep; 13, 14 check wake flag".
+-- "The timed steps carry their tick count"
+abbrev pub profileOf : Step → Profile
+profileOf NoCommunication = row 0 Phase.Off Ask.Nothing Timer.Idle
+profileOf TransceiverNormal = row 1 Phase.Rising (Ask.Transceiver TransceiverMode.Normal) Timer.Idle
+profileOf ControllersStopped = row 2 Phase.Rising stopped Timer.Idle
+profileOf ControllersStarted = row 3 Phase.Rising started Timer.Idle
+profileOf (Checking ticks) = row 4 Phase.Checking Ask.Nothing (Timer.Ensure ticks)
+profileOf Full = row 5 Phase.Full Ask.Nothing Timer.Idle
+profileOf Restarting = row 6 Phase.Recovering started Timer.Idle
+profileOf (Waiting ticks) = row 7 Phase.Recovering Ask.Nothing (Timer.Delay ticks)
+profileOf Silent = row 8 Phase.Silent Ask.Nothing Timer.Idle
+profileOf ClearWake = row 9 Phase.Falling Ask.ClearWake Timer.Idle
+profileOf DownStopped = row 10 Phase.Falling stopped Timer.Idle
+profileOf TransceiverStandby = row 11 Phase.Falling (Ask.Transceiver TransceiverMode.Standby) Timer.Idle
+profileOf ControllersSleep = row 12 Phase.Falling (Ask.Controllers ControllerMode.Sleep) Timer.Idle
+profileOf CheckWake = row 13 Phase.Falling Ask.CheckWake Timer.Idle
+profileOf CheckWakeAgain = row 14 Phase.Falling Ask.CheckWake Timer.Idle
+
+-- the number of a step, 0 to 14, whatever its tick count is
 abbrev pub stepNumber : Step → ℕ
-stepNumber NoCommunication = 0
-stepNumber TransceiverNormal = 1
-stepNumber ControllersStopped = 2
-stepNumber ControllersStarted = 3
-stepNumber (Checking t) = 4
-stepNumber Full = 5
-stepNumber Restarting = 6
-stepNumber (Waiting t) = 7
-stepNumber Silent = 8
-stepNumber ClearWake = 9
-stepNumber DownStopped = 10
-stepNumber TransceiverStandby = 11
-stepNumber ControllersSleep = 12
-stepNumber CheckWake = 13
-stepNumber CheckWakeAgain = 14
+stepNumber step = profileOf step .number
 
--- "Asking steps (1 to 3, 6, 9 to 14)": "1 transceiver normal, 2 controllers stopped, 3 controllers started"; "6 restarting, controllers
--- started"; "9 clear wake flag; 10 controllers stopped; 11 transceiver standby; 12 controllers sleep; 13, 14 check wake flag"
+-- what a network is about in a step
+abbrev pub phaseOf : Step → Phase
+phaseOf step = profileOf step .phase
+
+-- what a step asks for: "Asking steps (1 to 3, 6, 9 to 14)"
 abbrev pub asksFor : Step → Ask
-asksFor NoCommunication = Ask.Nothing
-asksFor TransceiverNormal = Ask.Transceiver TransceiverMode.Normal
-asksFor ControllersStopped = Ask.Controllers ControllerMode.Stopped
-asksFor ControllersStarted = Ask.Controllers ControllerMode.Started
-asksFor (Checking t) = Ask.Nothing
-asksFor Full = Ask.Nothing
-asksFor Restarting = Ask.Controllers ControllerMode.Started
-asksFor (Waiting t) = Ask.Nothing
-asksFor Silent = Ask.Nothing
-asksFor ClearWake = Ask.ClearWake
-asksFor DownStopped = Ask.Controllers ControllerMode.Stopped
-asksFor TransceiverStandby = Ask.Transceiver TransceiverMode.Standby
-asksFor ControllersSleep = Ask.Controllers ControllerMode.Sleep
-asksFor CheckWake = Ask.CheckWake
-asksFor CheckWakeAgain = Ask.CheckWake
+asksFor step = profileOf step .ask
+
+-- what a step counts: "timed steps", 4 and 7
+abbrev pub timerOf : Step → Timer
+timerOf step = profileOf step .timer
+
+-- ---- groups of steps
+-- "1 to 8"
+abbrev pub onPhase : Phase → Bool
+onPhase Phase.Off = false
+onPhase Phase.Rising = true
+onPhase Phase.Checking = true
+onPhase Phase.Full = true
+onPhase Phase.Recovering = true
+onPhase Phase.Silent = true
+onPhase Phase.Falling = false
 
 -- "up is steps 4 to 8"
+abbrev pub upPhase : Phase → Bool
+upPhase Phase.Off = false
+upPhase Phase.Rising = false
+upPhase Phase.Checking = true
+upPhase Phase.Full = true
+upPhase Phase.Recovering = true
+upPhase Phase.Silent = true
+upPhase Phase.Falling = false
+
+-- steps 4 and 5: the network is said to be full
+abbrev pub fullPhase : Phase → Bool
+fullPhase Phase.Off = false
+fullPhase Phase.Rising = false
+fullPhase Phase.Checking = true
+fullPhase Phase.Full = true
+fullPhase Phase.Recovering = false
+fullPhase Phase.Silent = false
+fullPhase Phase.Falling = false
+
+-- steps 1 to 8
+abbrev pub isOn : Step → Bool
+isOn step = onPhase (phaseOf step)
+
+-- steps 4 to 8
 abbrev pub isUp : Step → Bool
-isUp NoCommunication = false
-isUp TransceiverNormal = false
-isUp ControllersStopped = false
-isUp ControllersStarted = false
-isUp (Checking t) = true
-isUp Full = true
-isUp Restarting = true
-isUp (Waiting t) = true
-isUp Silent = true
-isUp ClearWake = false
-isUp DownStopped = false
-isUp TransceiverStandby = false
-isUp ControllersSleep = false
-isUp CheckWake = false
-isUp CheckWakeAgain = false
+isUp step = upPhase (phaseOf step)
+
+-- steps 4 and 5
+abbrev pub isFullStep : Step → Bool
+isFullStep step = fullPhase (phaseOf step)
+
+-- ---- what is asked for
+-- there is something to ask for: not in steps 0, 4, 5, 7 and 8
+abbrev pub isAsk : Ask → Bool
+isAsk Ask.Nothing = false
+isAsk (Ask.Controllers mode) = true
+isAsk (Ask.Transceiver mode) = true
+isAsk Ask.ClearWake = true
+isAsk Ask.CheckWake = true
+
+-- "Asking steps"
+abbrev pub isAsking : Step → Bool
+isAsking step = isAsk (asksFor step)
+
+-- the controllers are to start, as in steps 3 and 6
+abbrev pub asksToStart : Ask → Bool
+asksToStart Ask.Nothing = false
+asksToStart (Ask.Controllers ControllerMode.Stopped) = false
+asksToStart (Ask.Controllers ControllerMode.Started) = true
+asksToStart (Ask.Controllers ControllerMode.Sleep) = false
+asksToStart (Ask.Transceiver mode) = false
+asksToStart Ask.ClearWake = false
+asksToStart Ask.CheckWake = false
+
+-- the controllers are to sleep, as in step 12
+abbrev pub asksToSleep : Ask → Bool
+asksToSleep Ask.Nothing = false
+asksToSleep (Ask.Controllers ControllerMode.Stopped) = false
+asksToSleep (Ask.Controllers ControllerMode.Started) = false
+asksToSleep (Ask.Controllers ControllerMode.Sleep) = true
+asksToSleep (Ask.Transceiver mode) = false
+asksToSleep Ask.ClearWake = false
+asksToSleep Ask.CheckWake = false

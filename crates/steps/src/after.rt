@@ -2,40 +2,7 @@
 use crate::Move;
 use crate::Step;
 ghost use mathlib.Core.Path.{_≡_};
-ghost use Rattle.steps.specs.After.{risen, counted, firstDown, stepAfter};
-
-// One tick more. The count stays at the largest number, which no rule reaches.
-fn rise(ticks: u16) -> u16
-    ensures { λ r. ⌜ r ≡ risen ticks ⌝ }
-{
-    if ticks < Step::MOST_TICKS {
-        return ticks + 1;
-    }
-    ticks
-}
-
-// The step with its tick count one higher.
-fn count_tick(step: Step) -> Step
-    ensures { λ r. ⌜ r ≡ counted step ⌝ }
-{
-    match step {
-        Step::NoCommunication => step,
-        Step::TransceiverNormal => step,
-        Step::ControllersStopped => step,
-        Step::ControllersStarted => step,
-        Step::Checking(ticks) => Step::Checking(rise(ticks)),
-        Step::Full => step,
-        Step::Restarting => step,
-        Step::Waiting(ticks) => Step::Waiting(rise(ticks)),
-        Step::Silent => step,
-        Step::ClearWake => step,
-        Step::DownStopped => step,
-        Step::TransceiverStandby => step,
-        Step::ControllersSleep => step,
-        Step::CheckWake => step,
-        Step::CheckWakeAgain => step,
-    }
-}
+ghost use Rattle.steps.specs.After.{firstDown, stepAfter};
 
 // The first down step: 9 with partial networking, else 10.
 pub fn first_down(partial: bool) -> Step
@@ -55,7 +22,7 @@ pub fn step_after(to: Move, step: Step, partial: bool) -> Step
     match to {
         Move::Stay => step,
         Move::AskAgain => step,
-        Move::Count => count_tick(step),
+        Move::Count(next) => next,
         Move::EnterFull => Step::Checking(0),
         Move::EnterSilent => Step::Silent,
         Move::Pass => Step::Full,

@@ -4,161 +4,158 @@ use crate::Outfit;
 use crate::Step;
 use records::Mode;
 ghost use mathlib.Core.Path.{_≡_};
-ghost use Rattle.steps.specs.Decision.{isNo, isOn, goesDown, goesOn, decision};
+ghost use mathlib.Core.Bool.{cond};
+ghost use Rattle.steps.specs.Decision.{byMode, byPartial, byTransceiver, whenDone, risen, goesDown, ruleOf, decision};
 
-// Steps 1 to 8, which a network leaves where no communication is wanted.
-fn is_on(step: Step) -> bool
-    ensures { λ r. ⌜ r ≡ isOn step ⌝ }
+// ---- what the rules are put together from
+
+// One of three moves, where no, silent or full is wanted.
+fn by_mode(wanted: Mode, no: Move, silent: Move, full: Move) -> Move
+    ensures { λ r. ⌜ r ≡ byMode wanted no silent full ⌝ }
 {
-    match step {
-        Step::NoCommunication => false,
-        Step::TransceiverNormal => true,
-        Step::ControllersStopped => true,
-        Step::ControllersStarted => true,
-        Step::Checking(_) => true,
-        Step::Full => true,
-        Step::Restarting => true,
-        Step::Waiting(_) => true,
-        Step::Silent => true,
-        Step::ClearWake => false,
-        Step::DownStopped => false,
-        Step::TransceiverStandby => false,
-        Step::ControllersSleep => false,
-        Step::CheckWake => false,
-        Step::CheckWakeAgain => false,
+    match wanted {
+        Mode::No => no,
+        Mode::Silent => silent,
+        Mode::Full => full,
     }
 }
+
+// One of two moves: without partial networking, and with it.
+fn by_partial(outfit: Outfit, without: Move, with: Move) -> Move
+    ensures { λ r. ⌜ r ≡ byPartial outfit without with ⌝ }
+{
+    match outfit {
+        Outfit::Bare => without,
+        Outfit::Fitted => without,
+        Outfit::Partial => with,
+    }
+}
+
+// One of two moves: without a transceiver, and with one.
+fn by_transceiver(outfit: Outfit, without: Move, with: Move) -> Move
+    ensures { λ r. ⌜ r ≡ byTransceiver outfit without with ⌝ }
+{
+    match outfit {
+        Outfit::Bare => without,
+        Outfit::Fitted => with,
+        Outfit::Partial => with,
+    }
+}
+
+fn either(test: bool, yes: Move, no: Move) -> Move
+    ensures { λ r. ⌜ r ≡ cond test yes no ⌝ }
+{
+    if test { yes } else { no }
+}
+
+// An asking step that is not done asks again.
+fn when_done(done: bool, to: Move) -> Move
+    ensures { λ r. ⌜ r ≡ whenDone done to ⌝ }
+{
+    if done { to } else { Move::AskAgain }
+}
+
+// One tick more. The count stays at the largest number, which no rule reaches.
+fn rise(ticks: u16) -> u16
+    ensures { λ r. ⌜ r ≡ risen ticks ⌝ }
+{
+    if ticks < Step::MOST_TICKS {
+        return ticks + 1;
+    }
+    ticks
+}
+
+// ---- the rules
 
 fn goes_down(step: Step, wanted: Mode) -> bool
     ensures { λ r. ⌜ r ≡ goesDown step wanted ⌝ }
 {
     match wanted {
-        Mode::No => is_on(step),
+        Mode::No => step.is_on(),
         Mode::Silent => false,
         Mode::Full => false,
     }
 }
 
 // A rule for each step, where the network does not go down.
-fn go_on(step: Step, wanted: Mode, done: bool, refused: bool, reached: bool, outfit: Outfit) -> Move
-    ensures { λ r. ⌜ r ≡ goesOn step wanted done refused reached outfit ⌝ }
+fn rule_of(
+    step: Step,
+    wanted: Mode,
+    done: bool,
+    refused: bool,
+    reached: bool,
+    outfit: Outfit,
+) -> Move
+    ensures { λ r. ⌜ r ≡ ruleOf step wanted done refused reached outfit ⌝ }
 {
     match step {
-        Step::NoCommunication => match wanted {
-            Mode::No => Move::Stay,
-            Mode::Silent => Move::Stay,
-            Mode::Full => match outfit {
-                Outfit::Bare => Move::Enter(Step::ControllersStopped),
-                Outfit::Fitted => Move::Enter(Step::TransceiverNormal),
-                Outfit::Partial => Move::Enter(Step::TransceiverNormal),
-            },
-        },
-        Step::TransceiverNormal => if done {
-            Move::Enter(Step::ControllersStopped)
-        } else {
-            Move::AskAgain
-        },
-        Step::ControllersStopped => if done {
-            Move::Enter(Step::ControllersStarted)
-        } else {
-            Move::AskAgain
-        },
-        Step::ControllersStarted => if done {
-            Move::EnterFull
-        } else {
-            Move::AskAgain
-        },
-        Step::Checking(_) => match wanted {
-            Mode::No => if reached { Move::Pass } else { Move::Count },
-            Mode::Silent => Move::EnterSilent,
-            Mode::Full => if reached { Move::Pass } else { Move::Count },
-        },
-        Step::Full => match wanted {
-            Mode::No => Move::Stay,
-            Mode::Silent => Move::EnterSilent,
-            Mode::Full => Move::Stay,
-        },
-        Step::Restarting => if done { Move::Wait } else { Move::AskAgain },
-        Step::Waiting(_) => if reached {
-            match wanted {
-                Mode::No => Move::EnterFull,
-                Mode::Silent => Move::EnterSilent,
-                Mode::Full => Move::EnterFull,
-            }
-        } else {
-            Move::Count
-        },
-        Step::Silent => match wanted {
-            Mode::No => Move::Stay,
-            Mode::Silent => Move::Stay,
-            Mode::Full => Move::EnterFull,
-        },
-        Step::ClearWake => if done {
-            match outfit {
-                Outfit::Bare => Move::Stay,
-                Outfit::Fitted => Move::Stay,
-                Outfit::Partial => Move::Enter(Step::DownStopped),
-            }
-        } else {
-            Move::AskAgain
-        },
-        Step::DownStopped => if done {
-            match outfit {
-                Outfit::Bare => Move::Enter(Step::ControllersSleep),
-                Outfit::Fitted => Move::Enter(Step::ControllersSleep),
-                Outfit::Partial => Move::Enter(Step::TransceiverStandby),
-            }
-        } else {
-            Move::AskAgain
-        },
-        Step::TransceiverStandby => if done {
-            match outfit {
-                Outfit::Bare => Move::EnterNoCommunication,
-                Outfit::Fitted => Move::EnterNoCommunication,
-                Outfit::Partial => Move::Enter(Step::ControllersSleep),
-            }
-        } else {
-            Move::AskAgain
-        },
-        Step::ControllersSleep => match outfit {
-            Outfit::Bare => if done {
-                Move::EnterNoCommunication
-            } else {
-                Move::AskAgain
-            },
-            Outfit::Fitted => if done {
-                Move::Enter(Step::TransceiverStandby)
-            } else {
-                Move::AskAgain
-            },
-            Outfit::Partial => if refused {
-                Move::Enter(Step::CheckWakeAgain)
-            } else {
-                if done {
-                    Move::Enter(Step::CheckWake)
-                } else {
-                    Move::AskAgain
-                }
-            },
-        },
-        Step::CheckWake => if done {
-            match outfit {
-                Outfit::Bare => Move::Stay,
-                Outfit::Fitted => Move::Stay,
-                Outfit::Partial => Move::EnterNoCommunication,
-            }
-        } else {
-            Move::AskAgain
-        },
-        Step::CheckWakeAgain => if done {
-            match outfit {
-                Outfit::Bare => Move::Stay,
-                Outfit::Fitted => Move::Stay,
-                Outfit::Partial => Move::Enter(Step::ClearWake),
-            }
-        } else {
-            Move::AskAgain
-        },
+        Step::NoCommunication => {
+            let up = by_transceiver(
+                outfit,
+                Move::Enter(Step::ControllersStopped),
+                Move::Enter(Step::TransceiverNormal),
+            );
+            by_mode(wanted, Move::Stay, Move::Stay, up)
+        }
+        Step::TransceiverNormal => when_done(done, Move::Enter(Step::ControllersStopped)),
+        Step::ControllersStopped => when_done(done, Move::Enter(Step::ControllersStarted)),
+        Step::ControllersStarted => when_done(done, Move::EnterFull),
+        Step::Checking(ticks) => {
+            let checked = either(
+                reached,
+                Move::Pass,
+                Move::Count(Step::Checking(rise(ticks))),
+            );
+            by_mode(wanted, checked, Move::EnterSilent, checked)
+        }
+        Step::Full => by_mode(wanted, Move::Stay, Move::EnterSilent, Move::Stay),
+        Step::Restarting => when_done(done, Move::Wait),
+        Step::Waiting(ticks) => {
+            let back = by_mode(wanted, Move::EnterFull, Move::EnterSilent, Move::EnterFull);
+            either(reached, back, Move::Count(Step::Waiting(rise(ticks))))
+        }
+        Step::Silent => by_mode(wanted, Move::Stay, Move::Stay, Move::EnterFull),
+        Step::ClearWake => {
+            let next = by_partial(outfit, Move::Stay, Move::Enter(Step::DownStopped));
+            when_done(done, next)
+        }
+        Step::DownStopped => {
+            let next = by_partial(
+                outfit,
+                Move::Enter(Step::ControllersSleep),
+                Move::Enter(Step::TransceiverStandby),
+            );
+            when_done(done, next)
+        }
+        Step::TransceiverStandby => {
+            let next = by_partial(
+                outfit,
+                Move::EnterNoCommunication,
+                Move::Enter(Step::ControllersSleep),
+            );
+            when_done(done, next)
+        }
+        Step::ControllersSleep => {
+            let slept = by_transceiver(
+                outfit,
+                Move::EnterNoCommunication,
+                Move::Enter(Step::TransceiverStandby),
+            );
+            let awake = when_done(done, Move::Enter(Step::CheckWake));
+            by_partial(
+                outfit,
+                when_done(done, slept),
+                either(refused, Move::Enter(Step::CheckWakeAgain), awake),
+            )
+        }
+        Step::CheckWake => {
+            let next = by_partial(outfit, Move::Stay, Move::EnterNoCommunication);
+            when_done(done, next)
+        }
+        Step::CheckWakeAgain => {
+            let next = by_partial(outfit, Move::Stay, Move::Enter(Step::ClearWake));
+            when_done(done, next)
+        }
     }
 }
 
@@ -176,5 +173,5 @@ pub fn decide(
     if goes_down(step, wanted) {
         return Move::GoDown;
     }
-    go_on(step, wanted, done, refused, reached, outfit)
+    rule_of(step, wanted, done, refused, reached, outfit)
 }

@@ -3,7 +3,8 @@ mod after;
 mod decision;
 
 ghost use mathlib.Core.Path.{_≡_};
-ghost use Rattle.steps.specs.Steps.{stepNumber, asksFor, isUp};
+ghost use Rattle.steps.specs.Steps.{row, profileOf, stepNumber, phaseOf, asksFor, timerOf};
+ghost use Rattle.steps.specs.Steps.{onPhase, upPhase, isOn, isUp, asksToStart, asksToSleep};
 pub use after::first_down;
 pub use after::step_after;
 pub use decision::decide;
@@ -33,6 +34,18 @@ pub enum Step {
     CheckWakeAgain,
 }
 
+// What a network is about in a step. What holds of whole groups of steps is said of the phase.
+pub enum Phase {
+    Off,
+    Rising,
+    Checking,
+    Full,
+    // After a bus-off: restarting, and waiting.
+    Recovering,
+    Silent,
+    Falling,
+}
+
 // What a step asks for.
 pub enum Ask {
     Nothing,
@@ -40,6 +53,21 @@ pub enum Ask {
     Transceiver(TransceiverMode),
     ClearWake,
     CheckWake,
+}
+
+// The ticks that a step has counted, by the time that they are held against.
+pub enum Timer {
+    Idle,
+    Ensure(u16),
+    Delay(u16),
+}
+
+// What is said of each step once: its number, its phase, what it asks for and what it counts.
+pub struct Profile {
+    pub number: u8,
+    pub phase: Phase,
+    pub ask: Ask,
+    pub timer: Timer,
 }
 
 // How a network is equipped: no transceiver, a transceiver, a transceiver with partial networking.
@@ -55,8 +83,8 @@ pub enum Move {
     Stay,
     // The step's requests are sent again.
     AskAgain,
-    // The tick count rises.
-    Count,
+    // The tick count rises: the step with the new count.
+    Count(Step),
     EnterFull,
     EnterSilent,
     // The ensure time is over: the all-clear.
@@ -69,76 +97,168 @@ pub enum Move {
     Enter(Step),
 }
 
+impl Phase {
+    // Steps 1 to 8, which a network leaves where no communication is wanted.
+    fn is_on(self) -> bool
+        ensures { λ r. ⌜ r ≡ onPhase self ⌝ }
+    {
+        match self {
+            Phase::Off => false,
+            Phase::Rising => true,
+            Phase::Checking => true,
+            Phase::Full => true,
+            Phase::Recovering => true,
+            Phase::Silent => true,
+            Phase::Falling => false,
+        }
+    }
+
+    // Steps 4 to 8.
+    fn is_up(self) -> bool
+        ensures { λ r. ⌜ r ≡ upPhase self ⌝ }
+    {
+        match self {
+            Phase::Off => false,
+            Phase::Rising => false,
+            Phase::Checking => true,
+            Phase::Full => true,
+            Phase::Recovering => true,
+            Phase::Silent => true,
+            Phase::Falling => false,
+        }
+    }
+}
+
+impl Ask {
+    pub const NORMAL: Ask = Ask::Transceiver(TransceiverMode::Normal);
+
+    pub const STANDBY: Ask = Ask::Transceiver(TransceiverMode::Standby);
+
+    pub const STOPPED: Ask = Ask::Controllers(ControllerMode::Stopped);
+
+    pub const STARTED: Ask = Ask::Controllers(ControllerMode::Started);
+
+    pub const SLEEP: Ask = Ask::Controllers(ControllerMode::Sleep);
+
+    // The controllers are to start.
+    pub fn is_to_start(self) -> bool
+        ensures { λ r. ⌜ r ≡ asksToStart self ⌝ }
+    {
+        match self {
+            Ask::Nothing => false,
+            Ask::Controllers(mode) => match mode {
+                ControllerMode::Stopped => false,
+                ControllerMode::Started => true,
+                ControllerMode::Sleep => false,
+            },
+            Ask::Transceiver(_) => false,
+            Ask::ClearWake => false,
+            Ask::CheckWake => false,
+        }
+    }
+
+    // The controllers are to sleep.
+    pub fn is_to_sleep(self) -> bool
+        ensures { λ r. ⌜ r ≡ asksToSleep self ⌝ }
+    {
+        match self {
+            Ask::Nothing => false,
+            Ask::Controllers(mode) => match mode {
+                ControllerMode::Stopped => false,
+                ControllerMode::Started => false,
+                ControllerMode::Sleep => true,
+            },
+            Ask::Transceiver(_) => false,
+            Ask::ClearWake => false,
+            Ask::CheckWake => false,
+        }
+    }
+}
+
+// A row of the table, in one line.
+fn row(number: u8, phase: Phase, ask: Ask, timer: Timer) -> Profile
+    ensures { λ r. ⌜ r ≡ row number phase ask timer ⌝ }
+{
+    Profile {
+        number,
+        phase,
+        ask,
+        timer,
+    }
+}
+
 impl Step {
     // The most ticks that a timed step counts.
     pub const MOST_TICKS: u16 = 65535;
+
+    // The table of the steps.
+    fn profile(self) -> Profile
+        ensures { λ r. ⌜ r ≡ profileOf self ⌝ }
+    {
+        match self {
+            Step::NoCommunication => row(0, Phase::Off, Ask::Nothing, Timer::Idle),
+            Step::TransceiverNormal => row(1, Phase::Rising, Ask::NORMAL, Timer::Idle),
+            Step::ControllersStopped => row(2, Phase::Rising, Ask::STOPPED, Timer::Idle),
+            Step::ControllersStarted => row(3, Phase::Rising, Ask::STARTED, Timer::Idle),
+            Step::Checking(ticks) => row(4, Phase::Checking, Ask::Nothing, Timer::Ensure(ticks)),
+            Step::Full => row(5, Phase::Full, Ask::Nothing, Timer::Idle),
+            Step::Restarting => row(6, Phase::Recovering, Ask::STARTED, Timer::Idle),
+            Step::Waiting(ticks) => row(7, Phase::Recovering, Ask::Nothing, Timer::Delay(ticks)),
+            Step::Silent => row(8, Phase::Silent, Ask::Nothing, Timer::Idle),
+            Step::ClearWake => row(9, Phase::Falling, Ask::ClearWake, Timer::Idle),
+            Step::DownStopped => row(10, Phase::Falling, Ask::STOPPED, Timer::Idle),
+            Step::TransceiverStandby => row(11, Phase::Falling, Ask::STANDBY, Timer::Idle),
+            Step::ControllersSleep => row(12, Phase::Falling, Ask::SLEEP, Timer::Idle),
+            Step::CheckWake => row(13, Phase::Falling, Ask::CheckWake, Timer::Idle),
+            Step::CheckWakeAgain => row(14, Phase::Falling, Ask::CheckWake, Timer::Idle),
+        }
+    }
 
     // The number of this step.
     pub fn number(self) -> u8
         ensures { λ r. ⌜ r ≡ stepNumber self ⌝ }
     {
-        match self {
-            Step::NoCommunication => 0,
-            Step::TransceiverNormal => 1,
-            Step::ControllersStopped => 2,
-            Step::ControllersStarted => 3,
-            Step::Checking(_) => 4,
-            Step::Full => 5,
-            Step::Restarting => 6,
-            Step::Waiting(_) => 7,
-            Step::Silent => 8,
-            Step::ClearWake => 9,
-            Step::DownStopped => 10,
-            Step::TransceiverStandby => 11,
-            Step::ControllersSleep => 12,
-            Step::CheckWake => 13,
-            Step::CheckWakeAgain => 14,
-        }
+        let profile = self.profile();
+        profile.number
+    }
+
+    // What the network is about in this step.
+    pub fn phase(self) -> Phase
+        ensures { λ r. ⌜ r ≡ phaseOf self ⌝ }
+    {
+        let profile = self.profile();
+        profile.phase
     }
 
     // What this step asks for.
     pub fn asks(self) -> Ask
         ensures { λ r. ⌜ r ≡ asksFor self ⌝ }
     {
-        match self {
-            Step::NoCommunication => Ask::Nothing,
-            Step::TransceiverNormal => Ask::Transceiver(TransceiverMode::Normal),
-            Step::ControllersStopped => Ask::Controllers(ControllerMode::Stopped),
-            Step::ControllersStarted => Ask::Controllers(ControllerMode::Started),
-            Step::Checking(_) => Ask::Nothing,
-            Step::Full => Ask::Nothing,
-            Step::Restarting => Ask::Controllers(ControllerMode::Started),
-            Step::Waiting(_) => Ask::Nothing,
-            Step::Silent => Ask::Nothing,
-            Step::ClearWake => Ask::ClearWake,
-            Step::DownStopped => Ask::Controllers(ControllerMode::Stopped),
-            Step::TransceiverStandby => Ask::Transceiver(TransceiverMode::Standby),
-            Step::ControllersSleep => Ask::Controllers(ControllerMode::Sleep),
-            Step::CheckWake => Ask::CheckWake,
-            Step::CheckWakeAgain => Ask::CheckWake,
-        }
+        let profile = self.profile();
+        profile.ask
+    }
+
+    // The ticks that this step has counted.
+    pub fn timer(self) -> Timer
+        ensures { λ r. ⌜ r ≡ timerOf self ⌝ }
+    {
+        let profile = self.profile();
+        profile.timer
+    }
+
+    // Steps 1 to 8.
+    fn is_on(self) -> bool
+        ensures { λ r. ⌜ r ≡ isOn self ⌝ }
+    {
+        let phase = self.phase();
+        phase.is_on()
     }
 
     // Steps 4 to 8.
     pub fn is_up(self) -> bool
         ensures { λ r. ⌜ r ≡ isUp self ⌝ }
     {
-        match self {
-            Step::NoCommunication => false,
-            Step::TransceiverNormal => false,
-            Step::ControllersStopped => false,
-            Step::ControllersStarted => false,
-            Step::Checking(_) => true,
-            Step::Full => true,
-            Step::Restarting => true,
-            Step::Waiting(_) => true,
-            Step::Silent => true,
-            Step::ClearWake => false,
-            Step::DownStopped => false,
-            Step::TransceiverStandby => false,
-            Step::ControllersSleep => false,
-            Step::CheckWake => false,
-            Step::CheckWakeAgain => false,
-        }
+        let phase = self.phase();
+        phase.is_up()
     }
 }

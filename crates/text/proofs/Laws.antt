@@ -1,20 +1,13 @@
--- Laws that the proofs cite: what `io::decimal` writes is the decimal text, how long texts are, and records in a buffer. Assumes nothing.
-use Prim.Native.Nat.{ℕ, zero, suc, _+_, _-_, _*_, _/_, _%_, _^_, _≤_, _<_}
-use native.Mathlib.Omega.{arith}
+-- Laws that the proofs cite: what `io::decimal` writes is the decimal text, how long texts are, and records in a buffer.
+use Rattle.lists.proofs.Basics.{ℕ, zero, suc, _+_, _-_, _*_, _/_, _%_, _≤_, _<_, arith, lt-ltb, le-ltb, _≡_, refl, sym, ap, _∙_, List, [], _∷_, _++_}
+use Rattle.lists.proofs.Basics.{append-assoc, append-nil, Bool, true, false, cond, ltb, length, getD, drop, length-append, getD-drop, _^_}
 use native.Mathlib.Nat.{one-le-pow}
-use borrow.Author.Tests.{lt-ltb, le-ltb}
-use mathlib.Core.Path.{_≡_, refl, sym, ap, _∙_}
-use mathlib.Core.List.{List, [], _∷_, _++_, append-assoc, append-nil}
-use mathlib.Core.Bool.{Bool, true, false, cond}
-use lib.Dec.{ltb}
-use lib.ListN.{length, getD, drop, length-append}
-use lib.Seq.{getD-drop}
 use Rattle.io.specs.Digits.{digits, glyph, Fewest}
 use Rattle.lists.specs.Stores.{Stored}
 use Rattle.lists.proofs.Stores.{stored-then}
 use Rattle.records.specs.declared.Record.{Record}
-use Rattle.records.specs.Records.{handed}
-use Rattle.text.specs.Text.{digit, digitsUpTo, decimal, recordText, recordsText, recordsAt, blank, colon}
+use Rattle.records.specs.Records.{handed, recordsAt}
+use Rattle.text.specs.Text.{digit, digitsUpTo, decimal, recordText, recordsText, blank, colon}
 
 -- ---- digits
 glyph-digit : (d : ℕ) → d < 10 → glyph d ≡ digit d
@@ -32,7 +25,8 @@ fewest-digits (suc most) (suc k) n h b l =
     let reach : 10 ^ suc k ≤ n = l (omega arith) in
     let some : 1 ≤ 10 ^ k = one-le-pow k 10 (omega arith) in
     let tens : 10 ≤ n = omega (arith, reach, some) in
-    let front : digits 10 (suc k) (n / 10) ≡ digitsUpTo most (n / 10) = fewest-digits most k (n / 10) (omega arith) (omega (arith, b)) (λ z. omega (arith, reach)) in
+    let front : digits 10 (suc k) (n / 10) ≡ digitsUpTo most (n / 10) =
+    fewest-digits most k (n / 10) (omega arith) (omega (arith, b)) (λ z. omega (arith, reach)) in
     rw (le-ltb n 10 tens, glyph-digit (n % 10) (omega arith)) (ap (λ (t : List ℕ). t ++ (digit (n % 10) ∷ [])) front)
 
 below-power : (k : ℕ) → k < 10 ^ k
@@ -55,7 +49,8 @@ unfolding digitsUpTo
 digits-few zero k n b = omega arith
 digits-few (suc most) zero n b = rw (lt-ltb n 10 (omega (arith, b))) (omega arith)
 digits-few (suc most) (suc k) n b = by-test (ltb n 10) (digits-few most k (n / 10) (omega (arith, b))) where
-  by-test : (c : Bool) → length (digitsUpTo most (n / 10)) ≤ suc k → length (cond c (digit n ∷ []) (digitsUpTo most (n / 10) ++ (digit (n % 10) ∷ []))) ≤ suc (suc k)
+  by-test : (c : Bool) →
+      length (digitsUpTo most (n / 10)) ≤ suc k → length (cond c (digit n ∷ []) (digitsUpTo most (n / 10) ++ (digit (n % 10) ∷ []))) ≤ suc (suc k)
   by-test true h = omega arith
   by-test false h = omega (arith, length-append (digitsUpTo most (n / 10)) (digit (n % 10) ∷ []), h)
 
@@ -71,7 +66,9 @@ decimal-wide n h = digits-few (suc n) 19 n (omega arith)
 pub text-append : (rs ss : List Record) → recordsText (rs ++ ss) ≡ recordsText rs ++ recordsText ss
 unfolding recordsText
 text-append [] ss = refl
-text-append (r ∷ rs) ss = ap (λ (t : List ℕ). (blank ∷ recordText r) ++ t) (text-append rs ss) ∙ sym (append-assoc (blank ∷ recordText r) (recordsText rs) (recordsText ss))
+text-append (r ∷ rs) ss =
+    ap (λ (t : List ℕ). (blank ∷ recordText r) ++ t) (text-append rs ss)
+    ∙ sym (append-assoc (blank ∷ recordText r) (recordsText rs) (recordsText ss))
 
 pub records-length : (n : ℕ) (b : List ℕ) → length (recordsAt n b) ≡ n
 unfolding recordsAt
@@ -91,8 +88,9 @@ record-at (suc n) (suc i) b d h =
     record-at n i (drop 3 b) d (omega arith) ∙ (λ j. handed (kind j) (target j) (argument j))
 
 -- a record is stored piece by piece
-pub record-stored : (r : Record) {b b₁ b₂ b₃ b₄ b₅ b₆ : List ℕ} {i i₁ i₂ i₃ i₄ i₅ i₆ : ℕ}
-    → Stored b i (blank ∷ []) i₁ b₁ → Stored b₁ i₁ (decimal (r .kind)) i₂ b₂ → Stored b₂ i₂ (colon ∷ []) i₃ b₃ → Stored b₃ i₃ (decimal (r .target)) i₄ b₄
-    → Stored b₄ i₄ (colon ∷ []) i₅ b₅ → Stored b₅ i₅ (decimal (r .argument)) i₆ b₆ → Stored b i (recordsText (r ∷ [])) i₆ b₆
+pub record-stored : (r : Record) {b b₁ b₂ b₃ b₄ b₅ b₆ : List ℕ} {i i₁ i₂ i₃ i₄ i₅ i₆ : ℕ} → Stored b i (blank ∷ []) i₁ b₁ →
+    Stored b₁ i₁ (decimal (r .kind)) i₂ b₂ → Stored b₂ i₂ (colon ∷ []) i₃ b₃ → Stored b₃ i₃ (decimal (r .target)) i₄ b₄ →
+    Stored b₄ i₄ (colon ∷ []) i₅ b₅ → Stored b₅ i₅ (decimal (r .argument)) i₆ b₆ → Stored b i (recordsText (r ∷ [])) i₆ b₆
 unfolding recordsText recordText
-record-stored r s s₁ s₂ s₃ s₄ s₅ = rw (append-nil (recordText r)) (stored-then s (stored-then s₁ (stored-then s₂ (stored-then s₃ (stored-then s₄ s₅)))))
+record-stored r s s₁ s₂ s₃ s₄ s₅ =
+    rw (append-nil (recordText r)) (stored-then s (stored-then s₁ (stored-then s₂ (stored-then s₃ (stored-then s₄ s₅)))))

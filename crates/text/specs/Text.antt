@@ -3,9 +3,7 @@ use Prim.Native.Nat.{ℕ, zero, suc, _+_, _/_, _%_}
 use mathlib.Core.List.{List, [], _∷_, _++_}
 use mathlib.Core.Bool.{cond}
 use lib.Dec.{ltb}
-use lib.ListN.{getD, drop}
 use Rattle.records.specs.declared.Record.{Record}
-use Rattle.records.specs.Records.{handed}
 
 -- it stands between the parts of a line
 abbrev pub blank : ℕ
@@ -40,8 +38,3 @@ recordText r = decimal (r .kind) ++ (colon ∷ (decimal (r .target) ++ (colon �
 unfoldable pub recordsText : List Record → List ℕ
 recordsText [] = []
 recordsText (r ∷ rs) = (blank ∷ recordText r) ++ recordsText rs
-
--- so many records, as they stand at the front of a lent buffer
-unfoldable pub recordsAt : ℕ → List ℕ → List Record
-recordsAt zero buffer = []
-recordsAt (suc n) buffer = handed (getD buffer 0 0) (getD buffer 1 0) (getD buffer 2 0) ∷ recordsAt n (drop 3 buffer)

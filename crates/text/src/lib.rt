@@ -1,11 +1,11 @@
 // Text into a buffer: bytes, numbers and records, each stored at a place with room for it; the answer is the place after it.
 use records::Record;
-ghost use mathlib.Core.Path.{_≡_};
 ghost use mathlib.Core.List.{[], _∷_};
 ghost use Prim.Native.Nat.{_+_, _*_, _≤_, _<_};
 ghost use lib.ListN.{length};
 ghost use Rattle.lists.specs.Stores.{Stored};
-ghost use Rattle.text.specs.Text.{decimal, recordText, recordsText, recordsAt};
+ghost use Rattle.records.specs.Records.{recordsAt};
+ghost use Rattle.text.specs.Text.{decimal, recordsText};
 
 pub struct Text {}
 
@@ -83,7 +83,8 @@ pub fn put_record(line: &mut [u8], at: usize, handed: Record) -> usize
 pub fn put_records(line: &mut [u8], at: usize, buffer: &[u8], count: usize) -> usize
     requires { ⌜ 3 * count ≤ length (now buffer) ⌝ }
     requires { ⌜ at + 12 * count ≤ length (now line) ⌝ }
-    ensures { λ r. ⌜ Stored (now (line .entry)) at (recordsText (recordsAt count (now (buffer .entry)))) r (now (line .exit)) × (r ≤ at + 12 * count) ⌝ }
+    ensures { λ r. ⌜ Stored (now (line .entry)) at (recordsText (recordsAt count (now (buffer .entry)))) r (now (line .exit))
+        × (r ≤ at + 12 * count) ⌝ }
 {
     let mut to = at;
     let mut i: usize = 0;

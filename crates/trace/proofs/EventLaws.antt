@@ -1,17 +1,13 @@
--- Laws of events: what stands at a place of the events, in terms of the field step and of the bytes. Assumes nothing.
-use Prim.Native.Nat.{ℕ, _+_, _≤_}
-use native.Mathlib.Omega.{arith}
-use mathlib.Core.Path.{_≡_, refl, _∙_}
-use mathlib.Core.List.{List}
-use lib.ListN.{length, getD, take, drop, length-drop, List·getD-eq-default}
-use lib.Seq.{length-take-le}
-use Rattle.fields.specs.declared.Field.{Field}
-use Rattle.fields.specs.declared.Field.the-variants.{Stub, Overrun, Whole}
-use Rattle.fields.specs.Fields.{front, rowAt}
-use Rattle.fields.proofs.Laws.{row-end, row-stub, row-overrun, row-further}
-use Rattle.entries.specs.Entries.{nextOf}
+-- Laws of events: the value of a field at its place, and what a whole field says by its first bytes.
+use Rattle.lists.proofs.Basics.{ℕ, _+_, _≤_, arith, _≡_, refl, sym, ap, subst, _∙_, List, [], length, getD, take, drop, length-drop}
+use Rattle.lists.proofs.Basics.{List·getD-eq-default, length-take-le}
+use Rattle.records.specs.Records.{bytes}
+use Rattle.slots.specs.declared.Manager.{Manager}
+use Rattle.slots.specs.declared.Outcome.{Outcome}
+use Rattle.slots.specs.Calls.{Call, outcome, handedOut, bufferWith, Gives}
+use Rattle.trace.specs.declared.Event.{Event}
 use Rattle.trace.specs.declared.Item.{Item}
-use Rattle.trace.specs.Events.{eventOf, itemOf, itemAt}
+use Rattle.trace.specs.Events.{eventOf, itemOf, lent, callOf}
 
 -- ---- the value of a field, at its place
 value-length : (s : List ℕ) (at n : ℕ) → at + n ≤ length s → length (take n (drop at s)) ≡ n
@@ -29,17 +25,16 @@ pub item-whole : (s : List ℕ) (at tag n a b c : ℕ) (item : Item) → at + n 
 unfolding itemOf
 item-whole s at tag n a b c item h p q r e = e ∙ rw (value-length s at n h, p, q, r) refl
 
--- ---- itemAt
--- what stands at a place, by the field step
-abbrev pub itemFrom : List ℕ → ℕ → Field → Item
-itemFrom s at Field.End = Item.End
-itemFrom s at (Stub tag) = Item.Bad
-itemFrom s at (Overrun tag n) = Item.Bad
-itemFrom s at (Whole tag n next) = itemOf tag (take n (drop (at + 3) s))
+-- ---- the call that an event is
+-- a call that is lent no buffer leaves every byte of it
+pub quiet-gives : (m : Manager) (event e : Event) (r : Outcome) {b : List ℕ} →
+    event ≡ e → r ≡ outcome m (callOf e) → handedOut m (callOf e) ≡ [] → b ≡ lent → Gives m (callOf event) lent r b
+unfolding bufferWith bytes
+quiet-gives m event e r {b} p q none l =
+    subst (λ (x : Event). Gives m (callOf x) lent r b) (sym p) (record { result = q; buffer = l ∙ ap (bufferWith lent) (sym none) })
 
-pub item-from : (s : List ℕ) (at : ℕ) (f : Field) → front at (drop at s) ≡ f → (itemFrom s at f ≡ itemAt (rowAt s at)) × (nextOf f at ≡ nextOf (front at (drop at s)) at)
-unfolding itemAt
-item-from s at Field.End e = (rw (row-end at (drop at s) e) refl, rw e refl)
-item-from s at (Stub tag) e = (rw (row-stub at (drop at s) tag e) refl, rw e refl)
-item-from s at (Overrun tag n) e = (rw (row-overrun at (drop at s) tag n e) refl, rw e refl)
-item-from s at (Whole tag n next) e = (rw (row-further s at tag n next e .0) refl, rw e refl)
+-- a call that is lent the whole buffer
+pub lent-gives : (m : Manager) (event : Event) (call : List ℕ → Call) (r : Outcome) (b : List ℕ) {after : List ℕ} →
+    callOf event ≡ call lent → b ≡ lent → Gives m (call b) b r after → Gives m (callOf event) lent r after
+lent-gives m event call r b {after} p l g =
+    subst (λ (x : Call). Gives m x lent r after) (sym p) (subst (λ (x : List ℕ). Gives m (call x) x r after) l g)

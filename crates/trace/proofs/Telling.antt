@@ -1,105 +1,106 @@
--- Laws of lines: what an event hands out fits, and a line is stored piece by piece. Assumes nothing.
-use Prim.Native.Nat.{ℕ, _+_, _*_, _≤_, _<_}
-use native.Mathlib.Omega.{arith}
-use borrow.Author.Tests.{eq-eqb, ne-eqb}
-use mathlib.Core.Path.{_≡_, refl, sym, ap, _∙_}
-use mathlib.Core.List.{List, [], _∷_, _++_, append-assoc}
-use mathlib.Core.Bool.{Bool, true, false, cond}
-use lib.Dec.{eqb}
-use lib.ListN.{length, take, drop, length-append}
+-- Laws of lines: what an event hands out fits, and a line is stored piece by piece.
+use Rattle.lists.proofs.Basics.{ℕ, _+_, _*_, _≤_, _<_, arith, eq-eqb, ne-eqb, _≡_, sym, ap, _∙_, List, [], _∷_, _++_, append-assoc, Bool, true}
+use Rattle.lists.proofs.Basics.{false, cond, eqb, length, take, drop, length-append, refl}
 use Rattle.lists.specs.Stores.{Stored}
 use Rattle.lists.proofs.Stores.{stored-then}
 use Rattle.fields.specs.declared.Field.{Field}
 use Rattle.fields.specs.declared.Field.the-variants.{Stub, Overrun, Whole}
-use Rattle.fields.specs.Fields.{front}
-use Rattle.fields.proofs.Laws.{row-further}
-use Rattle.entries.specs.Entries.{nextOf}
-use Rattle.records.specs.Records.{bytes}
+use Rattle.fields.specs.Fields.{front, nextOf}
+use Rattle.fields.proofs.Laws.{row-further, rowFrom, row-from}
+use Rattle.records.specs.Records.{bytes, recordsAt}
 use Rattle.records.proofs.Laws.{length-bytes}
-use Rattle.manager.specs.declared.Manager.{Manager}
-use Rattle.manager.specs.declared.Outcome.{Outcome}
-use Rattle.manager.specs.Manager.{answerNumber}
-use Rattle.manager.specs.Calls.{newManager, readOf, startOf}
-use Rattle.manager_theorems.specs.Careful.{HandsOut}
-use Rattle.manager_theorems.proofs.Counts.{tick-hands-out, bus-off-hands-out, request-counts-none, poll-counts-none, controller-answer-counts-none, transceiver-mode-counts-none, clear-done-counts-none, check-done-counts-none}
+use Rattle.slots.specs.declared.Manager.{Manager}
+use Rattle.slots.specs.declared.Outcome.{Outcome}
+use Rattle.slots.specs.Manager.{answerNumber}
+use Rattle.slots.specs.Calls.{read, start, newManager, outcome, handedOut, bufferWith, Gives}
+use Rattle.calls.specs.Histories.{roomOf, countsRecords}
+use Rattle.calls.proofs.Counts.{counted, handed-back}
 use Rattle.text.specs.Text.{blank, newline, decimal}
 use Rattle.trace.specs.declared.Event.{Event}
 use Rattle.trace.specs.declared.Item.{Item}
-use Rattle.trace.specs.Events.{itemOf, lent, outcomeOf, bufferOf}
+use Rattle.trace.specs.Events.{itemOf, itemAt, lent, callOf}
 use Rattle.trace.specs.Splitting.{eventsFrom}
-use Rattle.trace.specs.Lines.{configLine, isPoll, saidOf, eventLine}
-use Rattle.trace.specs.Trace.{itemNext, nextAt, readingOf, firstLine, firstManager, firstNext}
-use Rattle.trace.proofs.EventLaws.{itemFrom, item-from}
+use Rattle.trace.specs.Lines.{configLine, polls, saidOf, entryLine, eventLine}
+use Rattle.trace.specs.Trace.{itemNext, nextAt, readingOf, firstLine, firstManager, firstNext, TellsFirst}
 
 -- ---- what an event hands out
--- a call that is lent no buffer hands out nothing
-none-out : (o : Outcome) → o .count ≡ 0 → HandsOut lent o lent
-unfolding bytes
-none-out o e = record { records = []; count = e; buffer = refl; room = omega arith }
+-- the count of its call is that of records
+event-counts : (event : Event) → countsRecords (callOf event) ≡ true
+event-counts (Event.Request handle mode) = refl
+event-counts (Event.BusOff controller) = refl
+event-counts (Event.Answer controller mode ok) = refl
+event-counts (Event.TransceiverMode transceiver mode) = refl
+event-counts (Event.ClearDone transceiver) = refl
+event-counts (Event.CheckDone transceiver) = refl
+event-counts Event.Tick = refl
+event-counts (Event.Poll handle) = refl
 
-pub event-hands-out : (m : Manager) (event : Event) → HandsOut lent (outcomeOf m event) (bufferOf m event)
-unfolding outcomeOf bufferOf
-event-hands-out m (Event.Request handle mode) = none-out _ (request-counts-none m handle mode)
-event-hands-out m (Event.BusOff controller) = bus-off-hands-out m lent controller
-event-hands-out m (Event.Answer controller mode ok) = none-out _ (controller-answer-counts-none m controller mode ok)
-event-hands-out m (Event.TransceiverMode transceiver mode) = none-out _ (transceiver-mode-counts-none m transceiver mode)
-event-hands-out m (Event.ClearDone transceiver) = none-out _ (clear-done-counts-none m transceiver)
-event-hands-out m (Event.CheckDone transceiver) = none-out _ (check-done-counts-none m transceiver)
-event-hands-out m Event.Tick = tick-hands-out m lent
-event-hands-out m (Event.Poll handle) = none-out _ (poll-counts-none m handle)
+-- it is lent at most 144 bytes
+event-room : (event : Event) → roomOf (callOf event) ≤ 144
+event-room (Event.Request handle mode) = omega arith
+event-room (Event.BusOff controller) = omega arith
+event-room (Event.Answer controller mode ok) = omega arith
+event-room (Event.TransceiverMode transceiver mode) = omega arith
+event-room (Event.ClearDone transceiver) = omega arith
+event-room (Event.CheckDone transceiver) = omega arith
+event-room Event.Tick = omega arith
+event-room (Event.Poll handle) = omega arith
 
 -- the records lie in the buffer, and there are at most 48
-pub event-fits : (m : Manager) (event : Event) (o : Outcome) (buffer : List ℕ) → o ≡ outcomeOf m event → buffer ≡ bufferOf m event → (3 * o .count ≤ length buffer) × (o .count ≤ 48)
-event-fits m event o buffer p q =
-    let h = event-hands-out m event in
-    rw (p, q, h .buffer, h .count)
-    (omega (arith, length-append (bytes (h .records)) (drop (3 * length (h .records)) lent), length-bytes (h .records)), omega (arith, h .room))
+pub event-fits : (m : Manager) (event : Event) (o : Outcome) (buffer : List ℕ) → Gives m (callOf event) lent o buffer
+    → (3 * o .count ≤ length buffer) × (o .count ≤ 48)
+unfolding bufferWith
+event-fits m event o buffer g =
+    let rs = handedOut m (callOf event) in
+    let k = counted m (callOf event) in
+    rw (g .result, g .buffer, k .count (event-counts event))
+    (omega (arith, length-append (bytes rs) (drop (3 * length rs) lent), length-bytes rs), omega (arith, k .room, event-room event))
 
 -- ---- a line
-pub event-stored : (number : ℕ) (m : Manager) (event : Event) (o : Outcome) (buffer : List ℕ) (answer : ℕ) (polled : Bool) {b b₁ b₂ b₃ : List ℕ} {i i₁ i₂ i₃ : ℕ}
-    → o ≡ outcomeOf m event → buffer ≡ bufferOf m event → answer ≡ answerNumber (o .answer) → polled ≡ isPoll event
-    → Stored b i (decimal number ++ (blank ∷ decimal answer)) i₁ b₁ → Stored b₁ i₁ (saidOf polled (o .mode) (o .count) buffer) i₂ b₂ → Stored b₂ i₂ (newline ∷ []) i₃ b₃
-    → Stored b i (eventLine number m event) i₃ b₃
-unfolding eventLine
-event-stored number m event o buffer answer polled {b} {b₁} {b₂} {b₃} {i} {i₁} {i₂} {i₃} p q r t s s₁ s₂ =
-    let said = saidOf polled (o .mode) (o .count) buffer ++ (newline ∷ []) in
-    let e : (decimal number ++ (blank ∷ decimal answer)) ++ said ≡ eventLine number m event = append-assoc (decimal number) (blank ∷ decimal answer) said ∙ rw (r, t, p, q) refl in
+pub event-stored : (number : ℕ) (m : Manager) (event : Event) (o : Outcome) (buffer : List ℕ) (answer : ℕ) (polled : Bool)
+    {b b₁ b₂ b₃ : List ℕ} {i i₁ i₂ i₃ : ℕ} → Gives m (callOf event) lent o buffer → answer ≡ answerNumber (o .answer) → polled ≡ polls (callOf event)
+    → Stored b i (decimal number ++ (blank ∷ decimal answer)) i₁ b₁ → Stored b₁ i₁ (saidOf polled (o .mode) (recordsAt (o .count) buffer)) i₂ b₂
+    → Stored b₂ i₂ (newline ∷ []) i₃ b₃ → Stored b i (eventLine number m event) i₃ b₃
+unfolding eventLine entryLine
+event-stored number m event o buffer answer polled {b} {b₁} {b₂} {b₃} {i} {i₁} {i₂} {i₃} g r t s s₁ s₂ =
+    let said = saidOf polled (o .mode) (recordsAt (o .count) buffer) ++ (newline ∷ []) in
+    let back = handed-back m (callOf event) lent o buffer (event-counts event) g in
+    let e : (decimal number ++ (blank ∷ decimal answer)) ++ said ≡ eventLine number m event =
+    append-assoc (decimal number) (blank ∷ decimal answer) said ∙ rw (r, t, back, g .result) refl in
     let whole : Stored b i ((decimal number ++ (blank ∷ decimal answer)) ++ said) i₃ b₃ = stored-then s (stored-then s₁ s₂) in
     rw e at whole
 
 -- ---- the first line
-module _ (s : List ℕ) (at : ℕ) (m : Manager) (o start : Outcome) (number : ℕ) (p : at ≡ eventsFrom s 0) (q : m ≡ newManager) (r : o ≡ readOf m (take at s))
-    (n : number ≡ answerNumber (o .answer)) (t : start ≡ startOf (o .manager)) where
+module _ (s : List ℕ) {at : ℕ} {m : Manager} {o begun : Outcome} {number : ℕ} (p : at ≡ eventsFrom s 0) (q : m ≡ newManager)
+    (r : o ≡ outcome m (read (take at s))) (n : number ≡ answerNumber (o .answer)) (t : begun ≡ outcome (o .manager) start) where
   reading : o ≡ readingOf s
   unfolding readingOf
   reading = r ∙ rw (p, q) refl
 
-  started : start .manager ≡ firstManager s
-  unfolding firstManager
-  started = ap (λ (x : Outcome). x .manager) t ∙ ap (λ (x : Outcome). startOf (x .manager) .manager) reading
-
-  line : (accepted : Bool) → eqb (answerNumber (readingOf s .answer)) 0 ≡ accepted → configLine number (cond accepted (o .count) (o .place)) ≡ firstLine s
-  unfolding firstLine
-  line accepted e =
-      ap (λ (k : ℕ). configLine k (cond accepted (o .count) (o .place))) n ∙ ap (λ (x : Outcome). configLine (answerNumber (x .answer)) (cond accepted (x .count) (x .place))) reading
-      ∙ ap (λ (c : Bool). configLine (answerNumber (readingOf s .answer)) (cond c (readingOf s .count) (readingOf s .place))) (sym e)
-
-  next : (accepted : Bool) → eqb (answerNumber (readingOf s .answer)) 0 ≡ accepted → cond accepted (eventsFrom s 0) (length s) ≡ firstNext s
-  unfolding firstNext
-  next accepted e = ap (λ (c : Bool). cond c (eventsFrom s 0) (length s)) (sym e)
-
   answer : answerNumber (readingOf s .answer) ≡ number
   answer = ap (λ (x : Outcome). answerNumber (x .answer)) (sym reading) ∙ sym n
 
-  pub first-accepted : number ≡ 0 → (start .manager ≡ firstManager s) × (at ≡ firstNext s) × (configLine number (o .count) ≡ firstLine s)
-  first-accepted z = let e = eq-eqb (answerNumber (readingOf s .answer)) 0 (answer ∙ z) in (started, p ∙ next true e, line true e)
+  module _ {before after : List ℕ} {k : ℕ} where
+    -- by whether the sheet was accepted
+    told : (accepted : Bool) → eqb (answerNumber (readingOf s .answer)) 0 ≡ accepted → (next : ℕ) →
+        next ≡ cond accepted (eventsFrom s 0) (length s) → Stored before 0 (configLine number (cond accepted (o .count) (o .place))) k after →
+        TellsFirst s (record { manager = begun .manager; next = next; length = k }) before after
+    unfolding firstManager firstNext firstLine
+    told accepted e next h line =
+        record { manager-after = rw (t, reading) refl; next-place = h ∙ rw e refl; line = rw (e, ← reading, ← n) line }
 
-  pub first-refused : (number ≡ 0 → ⊥) → (start .manager ≡ firstManager s) × (length s ≡ firstNext s) × (configLine number (o .place) ≡ firstLine s)
-  first-refused z = let e = ne-eqb (answerNumber (readingOf s .answer)) 0 (λ e. z (sym answer ∙ e)) in (started, next false e, line false e)
+    pub first-accepted : number ≡ 0 → Stored before 0 (configLine number (o .count)) k after →
+        TellsFirst s (record { manager = begun .manager; next = at; length = k }) before after
+    first-accepted z line = told true (eq-eqb (answerNumber (readingOf s .answer)) 0 (answer ∙ z)) at p line
+
+    pub first-refused : (number ≡ 0 → ⊥) → Stored before 0 (configLine number (o .place)) k after →
+        TellsFirst s (record { manager = begun .manager; next = length s; length = k }) before after
+    first-refused z line = told false (ne-eqb (answerNumber (readingOf s .answer)) 0 (λ e. z (sym answer ∙ e))) (length s) refl line
 
 -- ---- the loop: the next line's event stands further on
 module _ (s : List ℕ) (at : ℕ) (h : at < length s) where
-  further-field : (f : Field) → front at (drop at s) ≡ f → at < itemNext (length s) (nextOf f at) (itemFrom s at f)
+  further-field : (f : Field) → front at (drop at s) ≡ f → at < itemNext (length s) (nextOf f at) (itemAt (rowFrom s at f))
+  unfolding itemAt
   further-field Field.End e = h
   further-field (Stub tag) e = h
   further-field (Overrun tag n) e = h
@@ -111,7 +112,4 @@ module _ (s : List ℕ) (at : ℕ) (h : at < length s) where
 
   pub next-further : at < nextAt s at
   unfolding nextAt
-  next-further =
-      let f = front at (drop at s) in
-      let e = item-from s at f refl in
-      rw (e .0) at (further-field f refl)
+  next-further = rw (row-from s at (front at (drop at s)) refl) (further-field (front at (drop at s)) refl)

@@ -1,26 +1,20 @@
--- The lines that the program writes are those of the definitions: the sheet split off and read, the events decoded and run one after the other. Assumes nothing.
-use Prim.Native.Nat.{ℕ, zero, suc, _+_, _-_, _≤_, _<_}
-use native.Mathlib.Omega.{arith}
-use borrow.Author.Tests.{lt-ltb, le-ltb}
-use mathlib.Core.Path.{_≡_, refl, sym, ap, subst}
-use mathlib.Core.List.{List, [], _∷_, _++_}
-use mathlib.Core.Bool.{Bool, true, false, cond}
-use lib.Dec.{eqb}
-use lib.ListN.{length, take, drop, length-drop}
+-- The lines that the program writes are those of the definitions: the sheet split off and read, the events decoded and run one after the other.
+use Rattle.lists.proofs.Basics.{ℕ, zero, suc, _+_, _-_, _≤_, _<_, arith, lt-ltb, le-ltb, _≡_, sym, ap, subst, List, [], _∷_, _++_, Bool, true, false}
+use Rattle.lists.proofs.Basics.{cond, eqb, length, take, drop, length-drop, refl}
 use Rattle.fields.specs.declared.Field.{Field}
 use Rattle.fields.specs.declared.Field.the-variants.{Stub, Overrun, Whole}
-use Rattle.fields.specs.Fields.{Row, front, rowAt}
-use Rattle.fields.proofs.Laws.{Lies, front-lies, row-end, row-stub, row-overrun, row-further}
-use Rattle.entries.specs.Entries.{nextOf}
-use Rattle.manager.specs.declared.Manager.{Manager}
-use Rattle.manager.specs.Manager.{answerNumber}
+use Rattle.fields.specs.Fields.{Row, front, rowAt, nextOf}
+use Rattle.fields.proofs.Laws.{Lies, front-lies, row-further, row-from}
+use Rattle.slots.specs.declared.Manager.{Manager}
+use Rattle.slots.specs.Manager.{answerNumber}
+use Rattle.slots.specs.Calls.{outcome}
 use Rattle.trace.specs.declared.Event.{Event}
 use Rattle.trace.specs.declared.Item.{Item}
 use Rattle.trace.specs.Splitting.{eventsFrom}
-use Rattle.trace.specs.Events.{sized, eventOf, itemOf, itemAt, outcomeOf}
+use Rattle.trace.specs.Events.{sized, eventOf, itemOf, itemAt, callOf}
 use Rattle.trace.specs.Lines.{stopLine, eventLine, tooLong}
-use Rattle.trace.specs.Trace.{itemLine, itemManager, itemNext, lineAt, managerAt, nextAt, readingOf, firstLine, firstManager, firstNext, decoded, decodedItem, ending, endingItem, runLines, eventLines, linesAfter, traceOf, Prints, over, more}
-use Rattle.trace.proofs.EventLaws.{item-from}
+use Rattle.trace.specs.Trace.{itemLine, itemManager, itemNext, lineAt, managerAt, nextAt, readingOf, firstLine, firstManager, firstNext}
+use Rattle.trace.specs.Trace.{decoded, decodedItem, ending, endingItem, runLines, eventLines, linesAfter, traceOf, Prints, over, more}
 
 -- ---- a whole field is an event or bad
 pub data Decided : Item → Type 0 where
@@ -49,18 +43,18 @@ item-decided tag v =
 -- ---- from a place on
 module _ (s : List ℕ) (number : ℕ) (m : Manager) (at : ℕ) where
   -- one line, and then what is written from the next place on
-  line-here : (lines : List (List ℕ)) → at < length s
-      → Prints s (number + 1) (itemManager m (itemAt (rowAt s at))) (itemNext (length s) (nextOf (front at (drop at s)) at) (itemAt (rowAt s at))) lines
-      → Prints s number m at (itemLine (number + 1) m at (itemAt (rowAt s at)) ∷ lines)
+  line-here : (lines : List (List ℕ)) → at < length s → Prints s (number + 1) (itemManager m (itemAt (rowAt s at))) (itemNext (length s) (nextOf
+      (front at (drop at s)) at) (itemAt (rowAt s at))) lines → Prints s number m at (itemLine (number + 1) m at (itemAt (rowAt s at)) ∷ lines)
   unfolding lineAt managerAt nextAt
   line-here lines h p = more number m at lines h p
 
-  line-then : (item : Item) (next : ℕ) (lines : List (List ℕ)) → at < length s → itemAt (rowAt s at) ≡ item → nextOf (front at (drop at s)) at ≡ next
-      → Prints s (number + 1) (itemManager m item) (itemNext (length s) next item) lines → Prints s number m at (itemLine (number + 1) m at item ∷ lines)
+  line-then : (item : Item) (next : ℕ) (lines : List (List ℕ)) → at < length s → itemAt (rowAt s at) ≡ item →
+      nextOf (front at (drop at s)) at ≡ next → Prints s (number + 1) (itemManager m item) (itemNext (length s) next item) lines →
+      Prints s number m at (itemLine (number + 1) m at item ∷ lines)
   line-then item next lines h e f p =
       let at-next = subst (λ (k : ℕ). Prints s (number + 1) (itemManager m item) (itemNext (length s) k item) lines) (sym f) p in
-      let at-item =
-      subst (λ (x : Item). Prints s (number + 1) (itemManager m x) (itemNext (length s) (nextOf (front at (drop at s)) at) x) lines) (sym e) at-next in
+      let at-item = subst
+      (λ (x : Item). Prints s (number + 1) (itemManager m x) (itemNext (length s) (nextOf (front at (drop at s)) at) x) lines) (sym e) at-next in
       subst (λ (x : Item). Prints s number m at (itemLine (number + 1) m at x ∷ lines)) e (line-here lines h at-item)
 
   -- a bad field is the last line
@@ -68,12 +62,13 @@ module _ (s : List ℕ) (number : ℕ) (m : Manager) (at : ℕ) where
   stops h e = line-then Item.Bad (nextOf (front at (drop at s)) at) [] h e refl (over (number + 1) m (length s) (omega arith))
 
   -- an event's line, and then those of the fields after it
-  goes-on : (event : Event) (next : ℕ) → at < length s → itemAt (rowAt s at) ≡ Item.Known event → nextOf (front at (drop at s)) at ≡ next
-      → Prints s (number + 1) (outcomeOf m event .manager) next (eventLines (number + 1 + 1) (outcomeOf m event .manager) (rowAt s next))
-      → Prints s number m at (eventLine (number + 1) m event ∷ eventLines (number + 1 + 1) (outcomeOf m event .manager) (rowAt s next))
+  goes-on : (event : Event) (next : ℕ) → at < length s → itemAt (rowAt s at) ≡ Item.Known event → nextOf (front at (drop at s)) at ≡ next → Prints s
+      (number + 1) (outcome m (callOf event) .manager) next (eventLines (number + 1 + 1) (outcome m (callOf event) .manager) (rowAt s next)) →
+      Prints s number m at (eventLine (number + 1) m event ∷ eventLines (number + 1 + 1) (outcome m (callOf event) .manager) (rowAt s next))
   goes-on event next h e f p = line-then (Item.Known event) next _ h e f p
 
-  row-prints : (row : Row) → rowAt s at ≡ row → Prints s number m at (eventLines (number + 1) m row) → Prints s number m at (eventLines (number + 1) m (rowAt s at))
+  row-prints : (row : Row) →
+      rowAt s at ≡ row → Prints s number m at (eventLines (number + 1) m row) → Prints s number m at (eventLines (number + 1) m (rowAt s at))
   row-prints row e p = rw e p
 
   whole-prints : (next : ℕ) (item : Item) → Decided item → at < length s → itemAt (rowAt s at) ≡ item → nextOf (front at (drop at s)) at ≡ next
@@ -81,29 +76,32 @@ module _ (s : List ℕ) (number : ℕ) (m : Manager) (at : ℕ) where
       → Prints s number m at (runLines (number + 1) m (decodedItem item (decoded (rowAt s next))) ++ endingItem at item (ending (rowAt s next)))
   unfolding eventLines runLines
   whole-prints next _ is-bad h e f later = stops h e
-  whole-prints next _ (is-known event) h e f later = goes-on event next h e f (later (outcomeOf m event .manager))
+  whole-prints next _ (is-known event) h e f later = goes-on event next h e f (later (outcome m (callOf event) .manager))
 
   prints-field : (f : Field) → front at (drop at s) ≡ f
       → ((next : ℕ) → at < next → next ≤ length s → (m' : Manager) → Prints s (number + 1) m' next (eventLines (number + 1 + 1) m' (rowAt s next)))
       → Prints s number m at (eventLines (number + 1) m (rowAt s at))
-  unfolding eventLines decoded ending runLines
+  unfolding eventLines decoded ending runLines itemAt
   prints-field Field.End e later =
       let h = subst (Lies at (drop at s)) e (front-lies at (drop at s)) in
-      row-prints _ (row-end at (drop at s) e) (over number m at (omega (arith, length-drop at s, ap length h)))
+      row-prints _ (row-from s at Field.End e) (over number m at (omega (arith, length-drop at s, ap length h)))
   prints-field (Stub tag) e later =
       let h = subst (Lies at (drop at s)) e (front-lies at (drop at s)) in
-      row-prints _ (row-stub at (drop at s) tag e) (stops (omega (arith, length-drop at s, h)) (sym (item-from s at (Stub tag) e .0)))
+      let r = row-from s at (Stub tag) e in
+      row-prints _ r (stops (omega (arith, length-drop at s, h)) (ap itemAt r))
   prints-field (Overrun tag n) e later =
       let h = subst (Lies at (drop at s)) e (front-lies at (drop at s)) in
-      row-prints _ (row-overrun at (drop at s) tag n e) (stops (omega (arith, length-drop at s, h)) (sym (item-from s at (Overrun tag n) e .0)))
+      let r = row-from s at (Overrun tag n) e in
+      row-prints _ r (stops (omega (arith, length-drop at s, h)) (ap itemAt r))
   prints-field (Whole tag n next) e later =
       let r = row-further s at tag n next e in
       let v = take n (drop (at + 3) s) in
       row-prints _ (r .0)
-      (whole-prints next (itemOf tag v) (item-decided tag v) (omega (arith, r .1, r .2)) (sym (item-from s at (Whole tag n next) e .0))
+      (whole-prints next (itemOf tag v) (item-decided tag v) (omega (arith, r .1, r .2)) (ap itemAt (r .0))
       (ap (λ (f : Field). nextOf f at) e) (later next (omega (arith, r .1)) (r .2)))
 
-prints-by : (k : ℕ) (s : List ℕ) (number : ℕ) (m : Manager) (at : ℕ) → length s - at < k → Prints s number m at (eventLines (number + 1) m (rowAt s at))
+prints-by : (k : ℕ) (s : List ℕ) (number : ℕ) (m : Manager) (at : ℕ) →
+    length s - at < k → Prints s number m at (eventLines (number + 1) m (rowAt s at))
 prints-by zero s number m at h = absurd (omega arith)
 prints-by (suc k) s number m at h =
     prints-field s number m at (front at (drop at s)) refl (λ next l w m'. prints-by k s (number + 1) m' next (omega arith))
@@ -113,7 +111,8 @@ events-print s number m at = prints-by (suc (length s - at)) s number m at (omeg
 
 -- ---- the whole output
 module _ (s : List ℕ) where
-  by-reading : (accepted : Bool) → Prints s 0 (firstManager s) (cond accepted (eventsFrom s 0) (length s)) (cond accepted (eventLines 1 (firstManager s) (rowAt s (eventsFrom s 0))) [])
+  by-reading : (accepted : Bool) → Prints s 0
+      (firstManager s) (cond accepted (eventsFrom s 0) (length s)) (cond accepted (eventLines 1 (firstManager s) (rowAt s (eventsFrom s 0))) [])
   by-reading true = events-print s 0 (firstManager s) (eventsFrom s 0)
   by-reading false = over 0 (firstManager s) (length s) (omega arith)
 
@@ -132,8 +131,10 @@ module _ (s : List ℕ) where
   trace-lines h = rw (le-ltb 65536 (length s) h) refl
 
 -- the loop writes one output: two that it can write for an input are equal
-pub prints-one : (s : List ℕ) (number : ℕ) (m : Manager) (at : ℕ) (lines lines' : List (List ℕ)) → Prints s number m at lines → Prints s number m at lines' → lines ≡ lines'
+pub prints-one : (s : List ℕ) (number : ℕ) (m : Manager) (at : ℕ) (lines lines' : List (List ℕ)) →
+    Prints s number m at lines → Prints s number m at lines' → lines ≡ lines'
 prints-one s number m at _ _ (over _ _ _ h) (over _ _ _ h') = refl
 prints-one s number m at _ _ (over _ _ _ h) (more _ _ _ lines' h' p') = absurd (omega arith)
 prints-one s number m at _ _ (more _ _ _ lines h p) (over _ _ _ h') = absurd (omega arith)
-prints-one s number m at _ _ (more _ _ _ lines h p) (more _ _ _ lines' h' p') = ap (λ (l : List (List ℕ)). lineAt (number + 1) m s at ∷ l) (prints-one s _ _ _ lines lines' p p')
+prints-one s number m at _ _ (more _ _ _ lines h p) (more _ _ _ lines' h' p') =
+    ap (λ (l : List (List ℕ)). lineAt (number + 1) m s at ∷ l) (prints-one s _ _ _ lines lines' p p')

@@ -6,9 +6,7 @@ use mathlib.Core.Bool.{cond}
 use lib.Dec.{eqb}
 use lib.ListN.{length, getD, replicate}
 use Rattle.fields.specs.Fields.{Row, stop, stub, overrun, field}
-use Rattle.manager.specs.declared.Manager.{Manager}
-use Rattle.manager.specs.declared.Outcome.{Outcome}
-use Rattle.manager.specs.Calls.{requestOf, pollOf, controllerAnswerOf, transceiverModeOf, clearDoneOf, checkDoneOf, busOffOf, busOffBuffer, tickOf, tickBuffer}
+use Rattle.slots.specs.Calls.{Call, request, poll, busOff, answer, transceiverMode, clearDone, checkDone, tick}
 use Rattle.trace.specs.declared.Event.{Event}
 use Rattle.trace.specs.declared.Item.{Item}
 
@@ -44,24 +42,13 @@ itemAt (field at tag v rest) = itemOf tag v
 abbrev pub lent : List ℕ
 lent = replicate 144 0
 
--- what the manager's call gives
-unfoldable pub outcomeOf : Manager → Event → Outcome
-outcomeOf m (Event.Request handle mode) = requestOf m handle mode
-outcomeOf m (Event.BusOff controller) = busOffOf m controller lent
-outcomeOf m (Event.Answer controller mode ok) = controllerAnswerOf m controller mode ok
-outcomeOf m (Event.TransceiverMode transceiver mode) = transceiverModeOf m transceiver mode
-outcomeOf m (Event.ClearDone transceiver) = clearDoneOf m transceiver
-outcomeOf m (Event.CheckDone transceiver) = checkDoneOf m transceiver
-outcomeOf m Event.Tick = tickOf m lent
-outcomeOf m (Event.Poll handle) = pollOf m handle
-
--- the lent buffer after the call
-unfoldable pub bufferOf : Manager → Event → List ℕ
-bufferOf m (Event.Request handle mode) = lent
-bufferOf m (Event.BusOff controller) = busOffBuffer m controller lent
-bufferOf m (Event.Answer controller mode ok) = lent
-bufferOf m (Event.TransceiverMode transceiver mode) = lent
-bufferOf m (Event.ClearDone transceiver) = lent
-bufferOf m (Event.CheckDone transceiver) = lent
-bufferOf m Event.Tick = tickBuffer m lent
-bufferOf m (Event.Poll handle) = lent
+-- the call of the manager that an event is
+abbrev pub callOf : Event → Call
+callOf (Event.Request handle mode) = request handle mode
+callOf (Event.BusOff controller) = busOff controller 144
+callOf (Event.Answer controller mode ok) = answer controller mode ok
+callOf (Event.TransceiverMode transceiver mode) = transceiverMode transceiver mode
+callOf (Event.ClearDone transceiver) = clearDone transceiver
+callOf (Event.CheckDone transceiver) = checkDone transceiver
+callOf Event.Tick = tick 144
+callOf (Event.Poll handle) = poll handle

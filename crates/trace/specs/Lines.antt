@@ -2,14 +2,15 @@
 use Prim.Native.Nat.{ℕ}
 use mathlib.Core.List.{List, [], _∷_, _++_}
 use mathlib.Core.Bool.{Bool, true, false, cond}
-use Rattle.text.specs.Text.{blank, newline, decimal, recordsText, recordsAt}
-use Rattle.manager.specs.declared.Answer.{Answer}
-use Rattle.manager.specs.declared.Manager.{Manager}
-use Rattle.manager.specs.Manager.{answerNumber}
+use Rattle.text.specs.Text.{blank, newline, decimal, recordsText}
+use Rattle.records.specs.declared.Record.{Record}
+use Rattle.slots.specs.declared.Manager.{Manager}
+use Rattle.slots.specs.Calls.{Call, read, write, start, request, poll, busOff, answer, transceiverMode, clearDone, checkDone, tick}
+use Rattle.calls.specs.Histories.{Entry, entryOf}
 use Rattle.trace.specs.declared.Event.{Event}
-use Rattle.trace.specs.Events.{outcomeOf, bufferOf}
+use Rattle.trace.specs.Events.{callOf}
 
--- `config ` and `stop `, and the line `too long`
+-- c, o, n, f, i, g and a blank: what stands before the answer
 abbrev pub configWord : List ℕ
 configWord = 99 ∷ 111 ∷ 110 ∷ 102 ∷ 105 ∷ 103 ∷ 32 ∷ []
 
@@ -23,28 +24,35 @@ tooLong = 116 ∷ 111 ∷ 111 ∷ 32 ∷ 108 ∷ 111 ∷ 110 ∷ 103 ∷ 10 ∷ 
 
 -- "First line: `config 0` and the number of networks, or `config`, refusal, place"
 unfoldable pub configLine : ℕ → ℕ → List ℕ
-configLine answer shown = configWord ++ (decimal answer ++ (blank ∷ (decimal shown ++ (newline ∷ []))))
+configLine number shown = configWord ++ (decimal number ++ (blank ∷ (decimal shown ++ (newline ∷ []))))
 
 -- "gives `stop` and its offset in the whole input"
 unfoldable pub stopLine : ℕ → List ℕ
 stopLine at = stopWord ++ (decimal at ++ (newline ∷ []))
 
--- the one event whose line ends with a mode and has no records
-abbrev pub isPoll : Event → Bool
-isPoll (Event.Request handle mode) = false
-isPoll (Event.BusOff controller) = false
-isPoll (Event.Answer controller mode ok) = false
-isPoll (Event.TransceiverMode transceiver mode) = false
-isPoll (Event.ClearDone transceiver) = false
-isPoll (Event.CheckDone transceiver) = false
-isPoll Event.Tick = false
-isPoll (Event.Poll handle) = true
+-- a poll, whose line has a mode in place of records
+abbrev pub polls : Call → Bool
+polls (read bytes) = false
+polls (write room) = false
+polls start = false
+polls (request handle mode) = false
+polls (poll handle) = true
+polls (busOff controller room) = false
+polls (answer controller mode ok) = false
+polls (transceiverMode transceiver mode) = false
+polls (clearDone transceiver) = false
+polls (checkDone transceiver) = false
+polls (tick room) = false
 
 -- "then each record as kind:target:argument, or the mode polled (0 when the poll is refused)"
-unfoldable pub saidOf : Bool → ℕ → ℕ → List ℕ → List ℕ
-saidOf polled mode count buffer = cond polled (blank ∷ decimal mode) (recordsText (recordsAt count buffer))
+unfoldable pub saidOf : Bool → ℕ → List Record → List ℕ
+saidOf polled mode records = cond polled (blank ∷ decimal mode) (recordsText records)
 
--- "a line an event: its number from 1, the answer, then .."
+-- "a line an event: its number from 1, the answer, then ..", of an entry of a history
+unfoldable pub entryLine : ℕ → Entry → List ℕ
+entryLine number e =
+    decimal number ++ (blank ∷ (decimal (e .number) ++ (saidOf (polls (e .call)) (e .mode) (e .records) ++ (newline ∷ []))))
+
+-- the line of an event is that of the call that it is
 unfoldable pub eventLine : ℕ → Manager → Event → List ℕ
-eventLine number m event =
-    decimal number ++ (blank ∷ (decimal (answerNumber (outcomeOf m event .answer)) ++ (saidOf (isPoll event) (outcomeOf m event .mode) (outcomeOf m event .count) (bufferOf m event) ++ (newline ∷ []))))
+eventLine number m event = entryLine number (entryOf m (callOf event))

@@ -1,22 +1,30 @@
 -- The lines of an input, from document 01, section "The program": what one call of the library gives, and the whole output.
 use Prim.Native.Nat.{ℕ, _+_, _<_, _≤_}
+use mathlib.Core.Path.{_≡_}
 use mathlib.Core.List.{List, [], _∷_, _++_}
 use mathlib.Core.Bool.{cond}
 use lib.Dec.{eqb, ltb}
 use lib.ListN.{length, take, drop}
-use Rattle.fields.specs.Fields.{Row, stop, stub, overrun, field, front, rowAt}
-use Rattle.entries.specs.Entries.{nextOf}
-use Rattle.manager.specs.declared.Manager.{Manager}
-use Rattle.manager.specs.declared.Outcome.{Outcome}
-use Rattle.manager.specs.Manager.{answerNumber}
-use Rattle.manager.specs.Calls.{newManager, readOf, startOf}
+use Rattle.lists.specs.Stores.{Stored}
+use Rattle.fields.specs.Fields.{Row, stop, stub, overrun, field, front, rowAt, nextOf}
+use Rattle.slots.specs.declared.Manager.{Manager}
+use Rattle.slots.specs.declared.Outcome.{Outcome}
+use Rattle.slots.specs.Manager.{answerNumber}
+use Rattle.slots.specs.Calls.{read, start, newManager, outcome}
 use Rattle.trace.specs.declared.Event.{Event}
 use Rattle.trace.specs.declared.Item.{Item}
+use Rattle.trace.specs.declared.Told.{Told}
 use Rattle.trace.specs.Splitting.{eventsFrom}
-use Rattle.trace.specs.Events.{itemOf, itemAt, outcomeOf}
+use Rattle.trace.specs.Events.{itemOf, itemAt, callOf}
 use Rattle.trace.specs.Lines.{configLine, stopLine, eventLine, tooLong}
 
 -- ---- one line
+
+-- what a line leaves: the manager after it, the place of the next line's event, and its bytes at the front of the lent line
+pub record Tells (manager : Manager) (next : ℕ) (text : List ℕ) (r : Told) (before after : List ℕ) : Type 0 where
+  pub manager-after : r .manager ≡ manager
+  pub next-place : r .next ≡ next
+  pub line : Stored before 0 text (r .length) after
 
 -- the end gives no bytes, a bad field `stop` and its place, an event its numbered line
 abbrev pub itemLine : ℕ → Manager → ℕ → Item → List ℕ
@@ -28,7 +36,7 @@ itemLine number m at (Item.Known event) = eventLine number m event
 abbrev pub itemManager : Manager → Item → Manager
 itemManager m Item.End = m
 itemManager m Item.Bad = m
-itemManager m (Item.Known event) = outcomeOf m event .manager
+itemManager m (Item.Known event) = outcome m (callOf event) .manager
 
 -- after a `stop` nothing is left
 abbrev pub itemNext : ℕ → ℕ → Item → ℕ
@@ -36,7 +44,7 @@ itemNext total next Item.End = total
 itemNext total next Item.Bad = total
 itemNext total next (Item.Known event) = next
 
--- the line of what stands at a place of the input, the manager after it, and where the next line's event stands
+-- the line of what stands at a place of the input
 unfoldable pub lineAt : ℕ → Manager → List ℕ → ℕ → List ℕ
 lineAt number m s at = itemLine number m at (itemAt (rowAt s at))
 
@@ -48,11 +56,15 @@ managerAt m s at = itemManager m (itemAt (rowAt s at))
 unfoldable pub nextAt : List ℕ → ℕ → ℕ
 nextAt s at = itemNext (length s) (nextOf (front at (drop at s)) at) (itemAt (rowAt s at))
 
+-- what the line at a place leaves, where the lent line was `before` and is `after`
+abbrev pub TellsAt : ℕ → Manager → List ℕ → ℕ → Told → List ℕ → List ℕ → Type 0
+TellsAt number m s at r before after = Tells (managerAt m s at) (nextAt s at) (lineAt number m s at) r before after
+
 -- ---- the first line
 
 -- the reading of the sheet, by a new manager
 unfoldable pub readingOf : List ℕ → Outcome
-readingOf s = readOf newManager (take (eventsFrom s 0) s)
+readingOf s = outcome newManager (read (take (eventsFrom s 0) s))
 
 -- "0 means accepted": one of two, by an answer's number
 abbrev pub byReading : {A : Type 0} → Outcome → A → A → A
@@ -64,11 +76,15 @@ firstLine s = configLine (answerNumber (readingOf s .answer)) (byReading (readin
 
 -- "It reads the sheet, starts, and runs"
 unfoldable pub firstManager : List ℕ → Manager
-firstManager s = startOf (readingOf s .manager) .manager
+firstManager s = outcome (readingOf s .manager) start .manager
 
 -- where the events begin; after a refusal "no more"
 unfoldable pub firstNext : List ℕ → ℕ
 firstNext s = byReading (readingOf s) (eventsFrom s 0) (length s)
+
+-- what the first line leaves, where the lent line was `before` and is `after`
+abbrev pub TellsFirst : List ℕ → Told → List ℕ → List ℕ → Type 0
+TellsFirst s r before after = Tells (firstManager s) (firstNext s) (firstLine s) r before after
 
 -- ---- the whole output
 
@@ -101,7 +117,7 @@ ending (field at tag v rest) = endingItem at (itemOf tag v) (ending rest)
 -- the events one after the other: a line each, numbered, each on the manager that the one before left
 unfoldable pub runLines : ℕ → Manager → List Event → List (List ℕ)
 runLines number m [] = []
-runLines number m (event ∷ events) = eventLine number m event ∷ runLines (number + 1) (outcomeOf m event .manager) events
+runLines number m (event ∷ events) = eventLine number m event ∷ runLines (number + 1) (outcome m (callOf event) .manager) events
 
 -- "a line an event", numbered on; the last line is `stop` where a field is bad
 unfoldable pub eventLines : ℕ → Manager → Row → List (List ℕ)

@@ -1,6 +1,6 @@
 // The events one by one: what a field says, and the call of the manager that it is.
 use crate::Event;
-use crate::Found;
+use crate::FoundItem;
 use crate::Item;
 use fields::Field;
 use manager::Manager;
@@ -8,9 +8,9 @@ use manager::Outcome;
 ghost use mathlib.Core.Path.{_≡_};
 ghost use Prim.Native.Nat.{_+_, _≤_};
 ghost use lib.ListN.{length, getD, take, drop};
-ghost use Rattle.fields.specs.Fields.{front, rowAt};
-ghost use Rattle.entries.specs.Entries.{nextOf};
-ghost use Rattle.trace.specs.Events.{sized, eventOf, itemOf, itemAt, lent, outcomeOf, bufferOf};
+ghost use Rattle.fields.specs.Fields.{ReadAt};
+ghost use Rattle.trace.specs.Events.{sized, eventOf, itemOf, itemAt, lent, callOf};
+ghost use Rattle.slots.specs.Calls.{Gives};
 
 // An event whose field has the length that its tag asks for.
 fn sized(length: u16, wanted: u16, event: Event) -> Item
@@ -98,25 +98,25 @@ fn whole_item(bytes: &[u8], at: usize, tag: u8, length: u16) -> Item
 }
 
 // What stands at a place of the events.
-pub fn event_at(bytes: &[u8], at: usize) -> Found
-    ensures { λ r. ⌜ (r .item ≡ itemAt (rowAt (now (bytes .entry)) at)) × (r .next ≡ nextOf (front at (drop at (now (bytes .entry)))) at) ⌝ }
+pub fn event_at(bytes: &[u8], at: usize) -> FoundItem
+    ensures { λ r. ⌜ ReadAt itemAt (now (bytes .entry)) at (r .item) (r .next) ⌝ }
 {
     match fields::field_at(bytes, at) {
-        Field::End => Found {
+        Field::End => FoundItem {
             item: Item::End,
             next: at,
         },
-        Field::Stub { tag: _ } => Found {
+        Field::Stub { tag: _ } => FoundItem {
             item: Item::Bad,
             next: at,
         },
-        Field::Overrun { tag: _, length: _ } => Found {
+        Field::Overrun { tag: _, length: _ } => FoundItem {
             item: Item::Bad,
             next: at,
         },
         Field::Whole { tag, length, next } => {
             let item = whole_item(bytes, at + Field::HEAD, tag, length);
-            Found { item, next }
+            FoundItem { item, next }
         }
     }
 }
@@ -124,7 +124,7 @@ pub fn event_at(bytes: &[u8], at: usize) -> Found
 // The call of the manager that an event is, with its lent buffer.
 pub fn run_event(manager: Manager, event: Event, buffer: &mut [u8]) -> Outcome
     requires { ⌜ now buffer ≡ lent ⌝ }
-    ensures { λ r. ⌜ (r ≡ outcomeOf manager event) × (now (buffer .exit) ≡ bufferOf manager event) ⌝ }
+    ensures { λ r. ⌜ Gives manager (callOf event) lent r (now (buffer .exit)) ⌝ }
 {
     match event {
         Event::Request { handle, mode } => manager::request(manager, handle, mode),

@@ -60,7 +60,7 @@ pub enum Item {
 }
 
 // What stands at a place, and the place after it.
-pub struct Found {
+pub struct FoundItem {
     pub item: Item,
     pub next: usize,
 }
@@ -77,9 +77,9 @@ pub struct Trace {}
 impl Trace {
     // The most bytes of an input.
     pub const MOST_BYTES: usize = 65536;
-    // The lent buffer of a call, and room for the longest line: a number of 20 digits, an answer of 3, 48 records of 12 bytes, a blank and the newline.
+    // The lent buffer of a call.
     pub const LENT: usize = 144;
-
+    // Room for the longest line: a number of 20 digits, an answer of 3, 48 records of 12 bytes, a blank and the newline.
     pub const LINE: usize = 601;
     // The number that says accepted.
     pub const ACCEPTED: u8 = 0;

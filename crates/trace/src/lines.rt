@@ -13,10 +13,12 @@ ghost use Prim.Native.Nat.{_+_, _*_, _≤_};
 ghost use mathlib.Core.List.{_∷_, _++_};
 ghost use lib.ListN.{length};
 ghost use Rattle.lists.specs.Stores.{Stored};
+ghost use Rattle.records.specs.Records.{recordsAt};
 ghost use Rattle.text.specs.Text.{blank, decimal};
-ghost use Rattle.trace.specs.Events.{outcomeOf};
-ghost use Rattle.trace.specs.Lines.{configLine, stopLine, eventLine, isPoll, saidOf};
-ghost use Rattle.trace.specs.Trace.{lineAt, managerAt, nextAt, firstLine, firstManager, firstNext};
+ghost use Rattle.slots.specs.Calls.{outcome};
+ghost use Rattle.trace.specs.Events.{callOf};
+ghost use Rattle.trace.specs.Lines.{configLine, stopLine, eventLine, polls, saidOf};
+ghost use Rattle.trace.specs.Trace.{Tells, TellsAt, TellsFirst};
 
 // `config`, the answer and what is shown beside it.
 fn put_config(line: &mut [u8], answer: u8, shown: usize) -> usize
@@ -41,7 +43,7 @@ fn put_stop(line: &mut [u8], at: usize) -> usize
 }
 
 fn is_poll(event: Event) -> bool
-    ensures { λ r. ⌜ r ≡ isPoll event ⌝ }
+    ensures { λ r. ⌜ r ≡ polls (callOf event) ⌝ }
 {
     match event {
         Event::Request { handle: _, mode: _ } => false,
@@ -84,7 +86,8 @@ fn put_said(
     requires { ⌜ 3 * count ≤ length (now buffer) ⌝ }
     requires { ⌜ count ≤ 48 ⌝ }
     requires { ⌜ at + 577 ≤ length (now line) ⌝ }
-    ensures { λ r. ⌜ Stored (now (line .entry)) at (saidOf polled mode count (now (buffer .entry))) r (now (line .exit)) × (r ≤ at + 576) ⌝ }
+    ensures { λ r. ⌜ Stored (now (line .entry)) at (saidOf polled mode (recordsAt count (now (buffer .entry)))) r (now (line .exit))
+        × (r ≤ at + 576) ⌝ }
 {
     if polled {
         let to = text::put_byte(line, at, Text::BLANK);
@@ -96,7 +99,8 @@ fn put_said(
 // Runs an event and writes its line.
 fn tell(manager: Manager, event: Event, next: usize, number: u64, line: &mut [u8]) -> Told
     requires { ⌜ 601 ≤ length (now line) ⌝ }
-    ensures { λ r. ⌜ (r .manager ≡ outcomeOf manager event .manager) × (r .next ≡ next) × Stored (now (line .entry)) 0 (eventLine number manager event) (r .length) (now (line .exit)) ⌝ }
+    ensures { λ r. ⌜ Tells (outcome manager (callOf event) .manager) next (eventLine number manager event) r
+        (now (line .entry)) (now (line .exit)) ⌝ }
 {
     let mut buffer = [0u8; Trace::LENT];
     let outcome = run_event(manager, event, &mut buffer);
@@ -127,7 +131,7 @@ pub fn event_line(
     number: u64,
     line: &mut [u8; Trace::LINE],
 ) -> Told
-    ensures { λ r. ⌜ (r .manager ≡ managerAt manager (now (input .entry)) at) × (r .next ≡ nextAt (now (input .entry)) at) × Stored (now (line .entry)) 0 (lineAt number manager (now (input .entry)) at) (r .length) (now (line .exit)) ⌝ }
+    ensures { λ r. ⌜ TellsAt number manager (now (input .entry)) at r (now (line .entry)) (now (line .exit)) ⌝ }
 {
     let found = event_at(input, at);
     let item = found.item;
@@ -151,7 +155,7 @@ pub fn event_line(
 
 // The first line: the sheet is read, and the manager started.
 pub fn first_line(input: &[u8], line: &mut [u8; Trace::LINE]) -> Told
-    ensures { λ r. ⌜ (r .manager ≡ firstManager (now (input .entry))) × (r .next ≡ firstNext (now (input .entry))) × Stored (now (line .entry)) 0 (firstLine (now (input .entry))) (r .length) (now (line .exit)) ⌝ }
+    ensures { λ r. ⌜ TellsFirst (now (input .entry)) r (now (line .entry)) (now (line .exit)) ⌝ }
 {
     let at = events_from(input, 0);
     let reading = manager::read(manager::new(), &input[..at]);

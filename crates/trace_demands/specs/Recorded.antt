@@ -1,47 +1,20 @@
--- What `cantrace` writes for a recording, as the demands see it: each event is a call of the manager, each line is the entry of that call in a history.
+-- What `cantrace` writes for a recording, as the demands see it: each event is a call of the manager, each line is the entry of that call in a
+-- history.
 use Prim.Native.Nat.{ℕ, _+_}
 use mathlib.Core.Path.{_≡_}
 use mathlib.Core.List.{List, [], _∷_, _++_}
-use mathlib.Core.Bool.{Bool, true, false, cond}
+use mathlib.Core.Bool.{Bool}
 use lib.ListN.{length}
 use Rattle.fields.specs.Fields.{rowAt}
-use Rattle.manager.specs.declared.Manager.{Manager}
-use Rattle.text.specs.Text.{blank, newline, decimal, recordsText}
-use Rattle.network_demands.specs.Calls.{Call, read, write, start, request, poll, busOff, answer, transceiverMode, clearDone, checkDone, tick, outcome, Entry, entryOf, History, Since}
+use Rattle.slots.specs.declared.Manager.{Manager}
+use Rattle.slots.specs.Calls.{outcome}
+use Rattle.calls.specs.Histories.{entryOf, History, Since}
 use Rattle.trace.specs.declared.Event.{Event}
+use Rattle.trace.specs.Events.{callOf}
+use Rattle.trace.specs.Lines.{entryLine}
 use Rattle.trace.specs.Splitting.{eventsFrom}
 use Rattle.trace.specs.Trace.{firstLine, firstManager, decoded, ending, traceOf}
 use Rattle.demands.specs.Demands.{Begun}
-
--- the call that an event is: "10 request (handle, mode), 11 bus-off (controller), ..": "Its lent buffer has 144 bytes, room for any call."
-abbrev pub callOf : Event → Call
-callOf (Event.Request handle mode) = request handle mode
-callOf (Event.BusOff controller) = busOff controller 144
-callOf (Event.Answer controller mode ok) = answer controller mode ok
-callOf (Event.TransceiverMode transceiver mode) = transceiverMode transceiver mode
-callOf (Event.ClearDone transceiver) = clearDone transceiver
-callOf (Event.CheckDone transceiver) = checkDone transceiver
-callOf Event.Tick = tick 144
-callOf (Event.Poll handle) = poll handle
-
--- a poll, whose line has a mode in place of records
-abbrev pub polls : Call → Bool
-polls (read bytes) = false
-polls (write room) = false
-polls start = false
-polls (request handle mode) = false
-polls (poll handle) = true
-polls (busOff controller room) = false
-polls (answer controller mode ok) = false
-polls (transceiverMode transceiver mode) = false
-polls (clearDone transceiver) = false
-polls (checkDone transceiver) = false
-polls (tick room) = false
-
--- "a line an event: its number from 1, the answer, then each record as kind:target:argument, or the mode polled", of an entry of a history
-unfoldable pub entryLine : ℕ → Entry → List ℕ
-entryLine number e =
-    decimal number ++ (blank ∷ (decimal (e .number) ++ (cond (polls (e .call)) (blank ∷ decimal (e .mode)) (recordsText (e .records)) ++ (newline ∷ []))))
 
 -- the lines of a history, numbered from 1: the latest entry, which is its first, has the last line
 unfoldable pub historyLines : History → List (List ℕ)
@@ -62,7 +35,8 @@ managerAfter m (e ∷ es) = managerAfter (outcome m (callOf e) .manager) es
 abbrev pub eventsOf : List ℕ → List Event
 eventsOf s = decoded (rowAt s (eventsFrom s 0))
 
--- a recording whose sheet is taken: its manager was just started; its events, and the first of them to any place, are a history since the start; and the
+-- a recording whose sheet is taken: its manager was just started; its events, and the first of them to any place, are a history since the start; and
+-- the
 -- output is the first line, the lines of that history, and `stop` where a field is bad
 pub record Recorded (s : List ℕ) : Type 0 where
   pub begun : Begun (firstManager s)

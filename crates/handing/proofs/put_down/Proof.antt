@@ -1,17 +1,11 @@
--- `handing::put_down` meets its contract: the notices, and then the requests of the first down step. Assumes nothing.
+-- `handing::put_down` meets its contract: the notices, and then the requests of the first down step.
 use Rattle.steps.specs.Steps.{asksFor}
 use Rattle.steps.specs.After.{firstDown}
 use Rattle.records.proofs.Laws.{wrote-then, room-first, room-next}
 use Rattle.handing.specs.Handing.{requests, downNotices, goingDown}
-use borrow.Author.Needs.{needs}
+use Rattle.lists.proofs.Basics.{needs}
 use Rattle.handing.proofs.put_down.Statement.{statement}
 use Rattle.handing.proofs.put_down.Tie as tie
-
-first-down-requires : tie.Need-first-down-requires
-first-down-requires c κs = search needs
-
-asks-requires : tie.Need-asks-requires
-asks-requires c κs = search needs
 
 put-down-notices-requires : tie.Need-put-down-notices-requires
 unfolding goingDown
@@ -27,10 +21,8 @@ put-requests-requires c κs =
     let asked = put .before .before in
     let start = asked .before .before .before in
     let n = start .args .network in
-    rw (asked .asks .ensures, asked .before .first-down .ensures) (room-next (requests (asksFor (firstDown (n .partial))) n) (start .pre) (put .put-down-notices .ensures))
-
-same-length : tie.Need-same-length
-same-length c = search needs
+    rw (asked .asks .ensures, asked .before .first-down .ensures)
+    (room-next (requests (asksFor (firstDown (n .partial))) n) (start .pre) (put .put-down-notices .ensures))
 
 returns : tie.Need-returns
 unfolding goingDown
@@ -41,12 +33,5 @@ returns c =
     wrote-then (put .put-down-notices .ensures) sent
 
 pub put-down-spec : {M : Type 1} → statement M
-put-down-spec =
-    tie.close
-    (tie.spec
-    first-down-requires
-    asks-requires
-    put-down-notices-requires
-    put-requests-requires
-    same-length
+put-down-spec = tie.close (tie.spec (λ c κs. search needs) (λ c κs. search needs) put-down-notices-requires put-requests-requires (λ c. search needs)
     returns)

@@ -1,35 +1,10 @@
--- `sheet_cases::write_part` is safe: the part that is lent lies within the buffer. Assumes nothing.
+-- `sheet_cases::write_part` is safe: the part that is lent lies within the buffer.
 use native.Mathlib.Omega.{arith}
 use lib.ListN.{length-take}
 use borrow.Author.Needs.{needs}
 use Rattle.sheet_cases.proofs.write_part.Statement.{statement}
 use Rattle.sheet_cases.proofs.write_part.Tie as tie
 
-returns : tie.Need-returns
-returns c = search needs
-
-slice-relend-prefix-write : tie.Need-slice-relend-prefix-write
-slice-relend-prefix-write c = search needs
-
-slice-aggregate-write : tie.Need-slice-aggregate-write
-slice-aggregate-write c = simp length-take (omega arith)
-
-write-requires : tie.Need-write-requires
-write-requires c κs = search needs
-
-same-length : tie.Need-same-length
-same-length c = search needs
-
-returns-2 : tie.Need-returns-2
-returns-2 c = search needs
-
 pub write-part-spec : {M : Type 1} → statement M
-write-part-spec =
-    tie.close
-    (tie.spec
-    returns
-    slice-relend-prefix-write
-    slice-aggregate-write
-    write-requires
-    same-length
-    returns-2)
+write-part-spec = tie.close (tie.spec (λ c. search needs) (λ c. search needs) (λ c. simp length-take (omega arith)) (λ c κs. search needs)
+    (λ c. search needs) (λ c. search needs))

@@ -1,7 +1,5 @@
--- `text::put_decimal` meets its contract. Assumes nothing.
-use Prim.Native.Nat.{_<_, _^_}
-use native.Mathlib.Omega.{arith}
-use borrow.Author.Needs.{needs}
+-- `text::put_decimal` meets its contract.
+use Rattle.lists.proofs.Basics.{_<_, arith, needs, _^_}
 use Rattle.text.proofs.Laws.{decimal-wide}
 use Rattle.text.proofs.put_decimal.Statement.{statement}
 use Rattle.text.proofs.put_decimal.Tie as tie
@@ -12,9 +10,6 @@ put-digits-requires c κs =
     let g : a .args .number < 2 ^ 64 = search needs in
     omega (arith, a .pre, decimal-wide (a .args .number) g)
 
-same-length : tie.Need-same-length
-same-length c = search needs
-
 returns : tie.Need-returns
 returns c =
     let a = c .before .before .before .before .before in
@@ -23,4 +18,4 @@ returns c =
     (t, omega (arith, t .place, decimal-wide (a .args .number) g))
 
 pub put-decimal-spec : {M : Type 1} → statement M
-put-decimal-spec = tie.close (tie.spec put-digits-requires same-length returns)
+put-decimal-spec = tie.close (tie.spec put-digits-requires (λ c. search needs) returns)

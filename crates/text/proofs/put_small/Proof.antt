@@ -1,7 +1,5 @@
--- `text::put_small` meets its contract. Assumes nothing.
-use Prim.Native.Nat.{_<_}
-use native.Mathlib.Omega.{arith}
-use borrow.Author.Needs.{needs}
+-- `text::put_small` meets its contract.
+use Rattle.lists.proofs.Basics.{_<_, arith, needs}
 use Rattle.text.proofs.Laws.{decimal-small}
 use Rattle.text.proofs.put_small.Statement.{statement}
 use Rattle.text.proofs.put_small.Tie as tie
@@ -12,9 +10,6 @@ put-digits-requires c κs =
     let g : a .args .number < 256 = search needs in
     omega (arith, a .pre, decimal-small (a .args .number) g)
 
-same-length : tie.Need-same-length
-same-length c = search needs
-
 returns : tie.Need-returns
 returns c =
     let a = c .before .before .before .before .before in
@@ -23,4 +18,4 @@ returns c =
     (t, omega (arith, t .place, decimal-small (a .args .number) g))
 
 pub put-small-spec : {M : Type 1} → statement M
-put-small-spec = tie.close (tie.spec put-digits-requires same-length returns)
+put-small-spec = tie.close (tie.spec put-digits-requires (λ c. search needs) returns)

@@ -1,4 +1,4 @@
--- `trace_cases::run_cases` is safe and ends. Assumes nothing.
+-- `trace_cases::run_cases` is safe and ends.
 use Prim.Native.Nat.{_-_}
 use native.Mathlib.Omega.{arith}
 use mathlib.Core.Path.{_≡_, refl, _∙_}
@@ -13,53 +13,21 @@ Inv-loop head₀ input₀ case₀ head input case = (length head ≡ length head
 abbrev μ-loop : tie.MeasureT-loop
 μ-loop head₀ input₀ case₀ head input case = 1000000 - case
 
-loop-holds : tie.Need-loop-holds Inv-loop μ-loop
-loop-holds c = (refl, refl)
-
-add-case : tie.Need-add-case Inv-loop μ-loop
-add-case c = search needs
-
-run-case-requires : tie.Need-run-case-requires Inv-loop μ-loop
-run-case-requires c κs = search needs
-
 same-length : tie.Need-same-length Inv-loop μ-loop
-same-length c = c .before .before .before .before .before .run-case .kept .1 .0 ∙ c .before .before .before .before .before .before .before .before .before .loop .inv .0
+same-length c =
+    c .before .before .before .before .before .run-case .kept .1 .0
+    ∙ c .before .before .before .before .before .before .before .before .before .loop .inv .0
 
 same-length-2 : tie.Need-same-length-2 Inv-loop μ-loop
-same-length-2 c = c .before .before .before .before .before .run-case .kept .1 .1 .0 ∙ c .before .before .before .before .before .before .before .before .before .loop .inv .1
-
-returns : tie.Need-returns Inv-loop μ-loop
-returns c = tt
-
-loop-less : tie.Need-loop-less Inv-loop μ-loop
-loop-less c = omega arith
+same-length-2 c =
+    c .before .before .before .before .before .run-case .kept .1 .1 .0
+    ∙ c .before .before .before .before .before .before .before .before .before .loop .inv .1
 
 loop-again : tie.Need-loop-again Inv-loop μ-loop
-loop-again c = (c .before .before .before .before .before .run-case .kept .1 .0 ∙ c .before .before .before .before .before .before .before .before .before .loop .inv .0, c .before .before .before .before .before .run-case .kept .1 .1 .0 ∙ c .before .before .before .before .before .before .before .before .before .loop .inv .1)
-
-same-length-3 : tie.Need-same-length-3 Inv-loop μ-loop
-same-length-3 c = c .before .loop .inv .0
-
-same-length-4 : tie.Need-same-length-4 Inv-loop μ-loop
-same-length-4 c = c .before .loop .inv .1
-
-returns-2 : tie.Need-returns-2 Inv-loop μ-loop
-returns-2 c = tt
+loop-again c =
+    let b = c .before .before .before .before .before in let l = b .before .before .before .before .loop in
+    (b .run-case .kept .1 .0 ∙ l .inv .0, b .run-case .kept .1 .1 .0 ∙ l .inv .1)
 
 pub run-cases-spec : {M : Type 1} → statement M
-run-cases-spec =
-    tie.close
-    (tie.spec
-    Inv-loop
-    μ-loop
-    loop-holds
-    add-case
-    run-case-requires
-    same-length
-    same-length-2
-    returns
-    loop-less
-    loop-again
-    same-length-3
-    same-length-4
-    returns-2)
+run-cases-spec = tie.close (tie.spec Inv-loop μ-loop (λ c. (refl, refl)) (λ c. search needs) (λ c κs. search needs) same-length same-length-2
+    (λ c. tt) (λ c. omega arith) loop-again (λ c. c .before .loop .inv .0) (λ c. c .before .loop .inv .1) (λ c. tt))

@@ -1,19 +1,8 @@
--- `entries::grammar::is_present` meets its contract. Assumes nothing.
-use borrow.Author.Needs.{needs}
+-- `entries::grammar::is_present` meets its contract.
+use Rattle.lists.proofs.Basics.{needs}
 use Rattle.entries.proofs.grammar.is_present.Statement.{statement}
 use Rattle.entries.proofs.grammar.is_present.Tie as tie
 
-enum-told : tie.Need-enum-told
-enum-told c = search needs
-
-enum-told-2 : tie.Need-enum-told-2
-enum-told-2 c = search needs
-
-returns : tie.Need-returns
-returns c = simp (c .enum-told .given .1)
-
-returns-2 : tie.Need-returns-2
-returns-2 c = simp (c .enum-told2 .given .1)
-
 pub is-present-spec : {M : Type 1} → statement M
-is-present-spec = tie.close (tie.spec enum-told enum-told-2 returns returns-2)
+is-present-spec = tie.close (tie.spec (λ c. search needs) (λ c. search needs) (λ c. simp (c .enum-told .given .1))
+    (λ c. simp (c .enum-told2 .given .1)))

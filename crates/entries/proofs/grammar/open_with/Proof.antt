@@ -1,20 +1,8 @@
--- `entries::grammar::open_with` meets its contract. Assumes nothing.
-use borrow.Author.Tests.{lt-leb, le-leb}
-use mathlib.Core.Path.{sym, _∙_}
-use borrow.Author.Needs.{needs}
+-- `entries::grammar::open_with` meets its contract.
+use Rattle.lists.proofs.Basics.{lt-leb, le-leb, sym, _∙_, needs}
 use Rattle.entries.proofs.grammar.open_with.Statement.{statement}
 use Rattle.entries.proofs.grammar.open_with.Tie as tie
 use Rattle.entries.specs.Grammar.{opensWith}
-
-uses-requires : tie.Need-uses-requires
-uses-requires c κs = search needs
-
-returns : tie.Need-returns
-unfolding opensWith
-returns c = simp (sym (c .before .uses .ensures) ∙ c .if1 .taken)
-
-cast-if2 : tie.Need-cast-if2
-cast-if2 c = search needs
 
 returns-2 : tie.Need-returns-2
 unfolding opensWith
@@ -25,4 +13,5 @@ unfolding opensWith
 returns-3 c = simp (sym (c .before .before .before .uses .ensures) ∙ c .before .before .if1 .left, lt-leb _ _ (c .if2 .left))
 
 pub open-with-spec : {M : Type 1} → statement M
-open-with-spec = tie.close (tie.spec uses-requires returns cast-if2 returns-2 returns-3)
+open-with-spec = tie.close (tie.spec (λ c κs. search needs) (λ c. unfold opensWith in simp (sym (c .before .uses .ensures) ∙ c .if1 .taken))
+    (λ c. search needs) returns-2 returns-3)

@@ -1,37 +1,15 @@
--- `entries::values::whole_entry` meets its contract. Assumes nothing.
-use Prim.Native.Nat.{_+_, _≤_}
-use native.Mathlib.Omega.{arith}
-use mathlib.Core.Path.{_≡_, refl, sym, ap, _∙_}
-use lib.ListN.{length}
-use Rattle.entries.specs.Entries.{wholeEntry, timesEntry, byteEntry}
+-- `entries::values::whole_entry` meets its contract.
+use Rattle.lists.proofs.Basics.{_+_, arith, _≡_, refl, sym, ap, _∙_, length, needs}
+use Rattle.entries.specs.Entries.{wholeEntry, byteEntry}
 use Rattle.entries.proofs.Laws.{layout-byte, layout-times, entry-whole, value-byte}
-use borrow.Author.Needs.{needs}
 use Rattle.entries.proofs.values.whole_entry.Statement.{statement}
 use Rattle.entries.proofs.values.whole_entry.Tie as tie
-
-layout-of-requires : tie.Need-layout-of-requires
-layout-of-requires c κs = search needs
-
-enum-told : tie.Need-enum-told
-enum-told c = search needs
-
-enum-told-2 : tie.Need-enum-told-2
-enum-told-2 c = search needs
-
-enum-told-3 : tie.Need-enum-told-3
-enum-told-3 c = search needs
 
 shared-slice-read-byte-entry : tie.Need-shared-slice-read-byte-entry
 shared-slice-read-byte-entry c =
     let a = c .before .before .before .before .before .args in
     let e = layout-byte (a .tag) (a .length) (sym (c .before .before .before .layout-of .ensures) ∙ c .before .enum-told3 .given .1) in
     omega arith
-
-byte-entry-requires : tie.Need-byte-entry-requires
-byte-entry-requires c κs = search needs
-
-enum-told-4 : tie.Need-enum-told-4
-enum-told-4 c = search needs
 
 times-entry-requires : tie.Need-times-entry-requires
 times-entry-requires c κs =
@@ -43,13 +21,15 @@ returns : tie.Need-returns
 unfolding wholeEntry
 returns c =
     let s = c .before .before .before .before in
-    sym (entry-whole (s .args .bytes .now) (s .args .at) (s .args .tag) (s .args .length) _ (s .pre) (sym (c .before .before .layout-of .ensures) ∙ c .enum-told .given .1))
+    sym (entry-whole (s .args .bytes .now)
+    (s .args .at) (s .args .tag) (s .args .length) _ (s .pre) (sym (c .before .before .layout-of .ensures) ∙ c .enum-told .given .1))
 
 returns-2 : tie.Need-returns-2
 unfolding wholeEntry
 returns-2 c =
     let s = c .before .before .before .before in
-    sym (entry-whole (s .args .bytes .now) (s .args .at) (s .args .tag) (s .args .length) _ (s .pre) (sym (c .before .before .layout-of .ensures) ∙ c .enum-told2 .given .1))
+    sym (entry-whole (s .args .bytes .now)
+    (s .args .at) (s .args .tag) (s .args .length) _ (s .pre) (sym (c .before .before .layout-of .ensures) ∙ c .enum-told2 .given .1))
 
 returns-3 : tie.Need-returns-3
 unfolding wholeEntry
@@ -72,18 +52,5 @@ returns-4 c =
     ∙ sym (entry-whole (s .args .bytes .now) (s .args .at) (s .args .tag) (s .args .length) _ (s .pre) f ∙ rw e refl)
 
 pub whole-entry-spec : {M : Type 1} → statement M
-whole-entry-spec =
-    tie.close
-    (tie.spec
-    layout-of-requires
-    enum-told
-    enum-told-2
-    enum-told-3
-    shared-slice-read-byte-entry
-    byte-entry-requires
-    enum-told-4
-    times-entry-requires
-    returns
-    returns-2
-    returns-3
-    returns-4)
+whole-entry-spec = tie.close (tie.spec (λ c κs. search needs) (λ c. search needs) (λ c. search needs) (λ c. search needs)
+    shared-slice-read-byte-entry (λ c κs. search needs) (λ c. search needs) times-entry-requires returns returns-2 returns-3 returns-4)

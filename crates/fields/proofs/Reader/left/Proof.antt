@@ -1,8 +1,6 @@
--- `fields::Reader::left` meets its contract: the struct is taken apart, and `left_at` is called on the bytes and the place. All that the proof knows of `left_at` is that it meets its contract.
--- Assumes nothing.
-use Prim.Native.Nat.{ℕ, _-_}
-use mathlib.Core.List.{List}
-use lib.ListN.{length}
+-- `fields::Reader::left` meets its contract: the struct is taken apart, and `left_at` is called on the bytes and the place. All that the proof knows
+-- of `left_at` is that it meets its contract.
+use Rattle.lists.proofs.Basics.{ℕ, _-_, List, length}
 use mir.Syntax.{w64, tyInt}
 use contract.Running.{givenOf, tables, tablesOf}
 use denote.Builtin.{usize}

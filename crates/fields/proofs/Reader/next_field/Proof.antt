@@ -1,8 +1,6 @@
--- `fields::Reader::next_field` meets its contract: the struct is taken apart, and `field_at` is called on the bytes and the place. All that the proof knows of `field_at` is that it meets its contract.
--- Assumes nothing.
-use Prim.Native.Nat.{ℕ}
-use mathlib.Core.List.{List}
-use lib.ListN.{drop}
+-- `fields::Reader::next_field` meets its contract: the struct is taken apart, and `field_at` is called on the bytes and the place. All that the
+-- proof knows of `field_at` is that it meets its contract.
+use Rattle.lists.proofs.Basics.{ℕ, List, drop}
 use contract.Running.{givenOf, tables, tablesOf}
 use denote.Enum.Laws as EL
 use denote.Triple.Spec.{tripleOf}

@@ -1,57 +1,17 @@
--- `manager::requesting::poll` meets its contract. Assumes nothing.
-use mathlib.Core.Path.{_≡_, refl, sym, ap, _∙_}
-use Rattle.manager.specs.Calls.{pollOf}
-use borrow.Author.Needs.{needs}
+-- `manager::requesting::poll` meets its contract.
+use Rattle.lists.proofs.Basics.{needs, sym, _∙_}
+use Rattle.slots.specs.Calls.{outcome}
 use Rattle.manager.proofs.requesting.poll.Statement.{statement}
 use Rattle.manager.proofs.requesting.poll.Tie as tie
 
-slot-of-requires : tie.Need-slot-of-requires
-slot-of-requires c κs = search needs
-
-enum-told : tie.Need-enum-told
-enum-told c = search needs
-
-refuse-requires : tie.Need-refuse-requires
-refuse-requires c κs = search needs
-
-enum-told-2 : tie.Need-enum-told-2
-enum-told-2 c = search needs
-
-refuse-requires-2 : tie.Need-refuse-requires-2
-refuse-requires-2 c κs = search needs
-
-enum-known-at : tie.Need-enum-known-at
-enum-known-at c = search needs
-
-poll-at-requires : tie.Need-poll-at-requires
-poll-at-requires c κs = search needs
-
 returns : tie.Need-returns
-unfolding pollOf
-returns c =
-    simp (sym (c .before .before .before .slot-of .ensures) ∙ c .before .enum-told .given .1, c .refuse .ensures)
+unfolding outcome
+returns c = simp (sym (c .before .before .before .before .slot-of .ensures) ∙ c .before .before .answer .given .1, c .refuse .ensures)
 
 returns-2 : tie.Need-returns-2
-unfolding pollOf
-returns-2 c =
-    simp (sym (c .before .before .before .slot-of .ensures) ∙ c .before .enum-told2 .given .1, c .refuse2 .ensures)
-
-returns-3 : tie.Need-returns-3
-unfolding pollOf
-returns-3 c =
-    simp (sym (c .before .before .before .before .slot-of .ensures) ∙ c .before .before .at .given .1, c .poll-at .ensures)
+unfolding outcome
+returns-2 c = simp (sym (c .before .before .before .before .slot-of .ensures) ∙ c .before .before .at .given .1, c .poll-at .ensures)
 
 pub poll-spec : {M : Type 1} → statement M
-poll-spec =
-    tie.close
-    (tie.spec
-    slot-of-requires
-    enum-told
-    refuse-requires
-    enum-told-2
-    refuse-requires-2
-    enum-known-at
-    poll-at-requires
-    returns
-    returns-2
-    returns-3)
+poll-spec = tie.close (tie.spec (λ c κs. search needs) (λ c. search needs) (λ c κs. search needs) (λ c. search needs) (λ c κs. search needs) returns
+    returns-2)

@@ -1,57 +1,27 @@
--- `manager::requesting::request` meets its contract. Assumes nothing.
-use mathlib.Core.Path.{_≡_, refl, sym, ap, _∙_}
-use Rattle.manager.specs.Calls.{requestOf}
-use borrow.Author.Needs.{needs}
+-- `manager::requesting::request` meets its contract.
+use Rattle.lists.proofs.Basics.{needs, refl, ap, _∙_}
+use Rattle.manager.proofs.Laws.{slot-refused, slot-settled}
+use Rattle.slots.specs.Calls.{outcome, named}
+use Rattle.network.specs.Parts.{aRequest, requestPart, partOf, recordsOf}
+use Rattle.network.specs.declared.State.{State}
 use Rattle.manager.proofs.requesting.request.Statement.{statement}
 use Rattle.manager.proofs.requesting.request.Tie as tie
 
-slot-of-requires : tie.Need-slot-of-requires
-slot-of-requires c κs = search needs
-
-enum-told : tie.Need-enum-told
-enum-told c = search needs
-
-refuse-requires : tie.Need-refuse-requires
-refuse-requires c κs = search needs
-
-enum-told-2 : tie.Need-enum-told-2
-enum-told-2 c = search needs
-
-refuse-requires-2 : tie.Need-refuse-requires-2
-refuse-requires-2 c κs = search needs
-
-enum-known-at : tie.Need-enum-known-at
-enum-known-at c = search needs
-
-request-number-requires : tie.Need-request-number-requires
-request-number-requires c κs = search needs
-
 returns : tie.Need-returns
-unfolding requestOf
+unfolding outcome named
 returns c =
-    simp (sym (c .before .before .before .slot-of .ensures) ∙ c .before .enum-told .given .1, c .refuse .ensures)
+    let s = c .before .before in
+    slot-refused _ _ _ _ _ _ (s .before .before .slot-of .ensures) (s .answer .given .1) (c .refuse .ensures)
 
 returns-2 : tie.Need-returns-2
-unfolding requestOf
+unfolding outcome named partOf recordsOf
 returns-2 c =
-    simp (sym (c .before .before .before .slot-of .ensures) ∙ c .before .enum-told2 .given .1, c .refuse2 .ensures)
-
-returns-3 : tie.Need-returns-3
-unfolding requestOf
-returns-3 c =
-    simp (sym (c .before .before .before .before .slot-of .ensures) ∙ c .before .before .at .given .1, c .request-number .ensures)
+    let s = c .before .before in
+    let f = s .before .before in
+    let a = f .before .before .before .args in
+    slot-settled _ _ (aRequest (a .mode)) _ _ _ _ (f .before .before .slot-of .ensures) (f .at .given .1)
+    (c .before .request-part .ensures ∙ ap (λ (t : State). requestPart t (a .mode)) (s .state-at .ensures)) refl (c .settle .ensures)
 
 pub request-spec : {M : Type 1} → statement M
-request-spec =
-    tie.close
-    (tie.spec
-    slot-of-requires
-    enum-told
-    refuse-requires
-    enum-told-2
-    refuse-requires-2
-    enum-known-at
-    request-number-requires
-    returns
-    returns-2
-    returns-3)
+request-spec = tie.close (tie.spec (λ c κs. search needs) (λ c. search needs) (λ c κs. search needs) (λ c. search needs) (λ c κs. search needs)
+    (λ c κs. search needs) (λ c κs. search needs) returns returns-2)

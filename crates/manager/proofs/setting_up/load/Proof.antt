@@ -1,14 +1,7 @@
--- `manager::setting_up::load` meets its contract. Assumes nothing.
-use mathlib.Core.Path.{_≡_, refl, sym, ap, _∙_}
-use borrow.Author.Needs.{needs}
+-- `manager::setting_up::load` meets its contract.
+use Rattle.lists.proofs.Basics.{needs}
 use Rattle.manager.proofs.setting_up.load.Statement.{statement}
 use Rattle.manager.proofs.setting_up.load.Tie as tie
 
-blank-state-requires : tie.Need-blank-state-requires
-blank-state-requires c κs = search needs
-
-returns : tie.Need-returns
-returns c = simp (c .blank-state .ensures)
-
 pub load-spec : {M : Type 1} → statement M
-load-spec = tie.close (tie.spec blank-state-requires returns)
+load-spec = tie.close (tie.spec (λ c κs. search needs) (λ c. simp (c .blank-state .ensures)))

@@ -1,23 +1,15 @@
--- `manager::setting_up::write_sheet` meets its contract. Assumes nothing.
-use mathlib.Core.Path.{_≡_, refl, sym, ap, _∙_}
-use Rattle.manager.specs.Calls.{afterWriting}
-use borrow.Author.Needs.{needs}
+-- `manager::setting_up::write_sheet` meets its contract.
+use Rattle.lists.proofs.Basics.{needs, ap, _∙_}
+use Rattle.manager.proofs.Laws.{written-in-room}
+use Rattle.slots.specs.Calls.{afterWriting}
 use Rattle.manager.proofs.setting_up.write_sheet.Statement.{statement}
 use Rattle.manager.proofs.setting_up.write_sheet.Tie as tie
 
-write-requires : tie.Need-write-requires
-write-requires c κs = search needs
-
-after-writing-requires : tie.Need-after-writing-requires
-after-writing-requires c κs = search needs
-
-same-length : tie.Need-same-length
-same-length c = search needs
-
 returns : tie.Need-returns
 returns c =
+    let w = c .before .before .before .write .ensures in
     let a = c .before .before .before .before .before .before .before .args in
-    (c .after-writing .ensures ∙ ap (afterWriting (a .manager)) (c .before .before .before .write .ensures .0), c .before .before .before .write .ensures .1)
+    (c .after-writing .ensures ∙ ap (afterWriting (a .manager)) (w .0) ∙ written-in-room (a .manager) _, w .1)
 
 pub write-sheet-spec : {M : Type 1} → statement M
-write-sheet-spec = tie.close (tie.spec write-requires after-writing-requires same-length returns)
+write-sheet-spec = tie.close (tie.spec (λ c κs. search needs) (λ c κs. search needs) (λ c. search needs) returns)

@@ -1,18 +1,9 @@
--- `network::State::start` meets its contract. Assumes nothing.
-use borrow.Author.Needs.{needs}
+-- `network::State::start` meets its contract.
+use Rattle.lists.proofs.Basics.{needs}
 use Rattle.network.proofs.State.start.Statement.{statement}
 use Rattle.network.proofs.State.start.Tie as tie
 use Rattle.network.specs.State.{started}
 
-first-down-requires : tie.Need-first-down-requires
-first-down-requires c κs = search needs
-
-no-answers-requires : tie.Need-no-answers-requires
-no-answers-requires c κs = search needs
-
-returns : tie.Need-returns
-unfolding started
-returns c = simp (c .before .first-down .ensures, c .no-answers .ensures)
-
 pub start-spec : {M : Type 1} → statement M
-start-spec = tie.close (tie.spec first-down-requires no-answers-requires returns)
+start-spec = tie.close (tie.spec (λ c κs. search needs) (λ c κs. search needs)
+    (λ c. unfold started in simp (c .before .first-down .ensures, c .no-answers .ensures)))

@@ -1,12 +1,6 @@
--- `network::answers::answer_of` meets its contract. Assumes nothing.
+-- `network::answers::answer_of` meets its contract.
 use Rattle.network.proofs.answers.answer_of.Statement.{statement}
 use Rattle.network.proofs.answers.answer_of.Tie as tie
 
-returns : tie.Need-returns
-returns c = simp (c .if1 .taken)
-
-returns-2 : tie.Need-returns-2
-returns-2 c = simp (c .if1 .left)
-
 pub answer-of-spec : {M : Type 1} → statement M
-answer-of-spec = tie.close (tie.spec returns returns-2)
+answer-of-spec = tie.close (tie.spec (λ c. simp (c .if1 .taken)) (λ c. simp (c .if1 .left)))

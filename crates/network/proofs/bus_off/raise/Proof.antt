@@ -1,17 +1,7 @@
--- `network::bus_off::raise` meets its contract. Assumes nothing.
-use borrow.Author.Tests.{lt-ltb, le-ltb}
-use borrow.Author.Needs.{needs}
+-- `network::bus_off::raise` meets its contract.
+use Rattle.lists.proofs.Basics.{lt-ltb, le-ltb, needs}
 use Rattle.network.proofs.bus_off.raise.Statement.{statement}
 use Rattle.network.proofs.bus_off.raise.Tie as tie
 
-add-result : tie.Need-add-result
-add-result c = search needs
-
-returns : tie.Need-returns
-returns c = simp (lt-ltb _ _ (c .if1 .taken))
-
-returns-2 : tie.Need-returns-2
-returns-2 c = simp (le-ltb _ _ (c .if1 .left))
-
 pub raise-spec : {M : Type 1} → statement M
-raise-spec = tie.close (tie.spec add-result returns returns-2)
+raise-spec = tie.close (tie.spec (λ c. search needs) (λ c. simp (lt-ltb _ _ (c .if1 .taken))) (λ c. simp (le-ltb _ _ (c .if1 .left))))

@@ -1,25 +1,8 @@
--- `network::moving::lower` meets its contract: a table of the three modes. Assumes nothing.
-use borrow.Author.Needs.{needs}
+-- `network::moving::lower` meets its contract: a table of the three modes.
+use Rattle.lists.proofs.Basics.{needs}
 use Rattle.network.proofs.moving.lower.Statement.{statement}
 use Rattle.network.proofs.moving.lower.Tie as tie
 
-enum-told : tie.Need-enum-told
-enum-told c = search needs
-
-enum-told-2 : tie.Need-enum-told-2
-enum-told-2 c = search needs
-
-enum-told-3 : tie.Need-enum-told-3
-enum-told-3 c = search needs
-
-returns : tie.Need-returns
-returns c = simp (c .enum-told .given .1)
-
-returns-2 : tie.Need-returns-2
-returns-2 c = simp (c .enum-told2 .given .1)
-
-returns-3 : tie.Need-returns-3
-returns-3 c = simp (c .enum-told3 .given .1)
-
 pub lower-spec : {M : Type 1} → statement M
-lower-spec = tie.close (tie.spec enum-told enum-told-2 enum-told-3 returns returns-2 returns-3)
+lower-spec = tie.close (tie.spec (λ c. search needs) (λ c. search needs) (λ c. search needs) (λ c. simp (c .enum-told .given .1))
+    (λ c. simp (c .enum-told2 .given .1)) (λ c. simp (c .enum-told3 .given .1)))

@@ -1,12 +1,7 @@
--- `network::ticking::any_refused` meets its contract: none of the first `i` answers is a refusal. Assumes nothing.
-use Prim.Native.Nat.{_-_, _<_, _≤_}
-use native.Mathlib.Omega.{arith}
-use borrow.Author.Needs.{needs}
-use mathlib.Core.Path.{_≡_, refl, sym, ap, _∙_}
-use mathlib.Core.Bool.{not, true, false}
-use lib.ListN.{length, take}
+-- `network::ticking::any_refused` meets its contract: none of the first `i` answers is a refusal.
+use Rattle.lists.proofs.Basics.{_-_, _<_, _≤_, arith, needs, _≡_, refl, sym, _∙_, false, length, take}
 use Rattle.lists.specs.Lists.{any}
-use Rattle.lists.proofs.Any.{any-more, any-found, any-stop, any-out}
+use Rattle.lists.proofs.Any.{any-more, any-found, any-end}
 use Rattle.lists.proofs.Parts.{unmapped}
 use Rattle.network.specs.declared.Heard.{Heard}
 use Rattle.network.specs.Rules.{isRefusal}
@@ -14,72 +9,33 @@ use Rattle.network.proofs.ticking.any_refused.Statement.{statement}
 use Rattle.network.proofs.ticking.any_refused.Tie as tie
 
 abbrev Inv-loop : tie.InvT-loop
-Inv-loop count answers i₀ i = (i ≤ count) × (any isRefusal (take i answers) ≡ false)
+Inv-loop answers used i₀ i = (i ≤ used) × (any isRefusal (take i answers) ≡ false)
 
 abbrev μ-loop : tie.MeasureT-loop
-μ-loop count answers i₀ i = 4 - i
-
-loop-holds : tie.Need-loop-holds Inv-loop μ-loop
-unfolding any
-loop-holds c = (omega arith, refl)
-
-cast-loop : tie.Need-cast-loop Inv-loop μ-loop
-cast-loop c = search needs
+μ-loop answers used i₀ i = used - i
 
 returns : tie.Need-returns Inv-loop μ-loop
 returns c =
-    let s = c .before .before .before .before in
-    sym (any-stop isRefusal (s .args .state .answers) (c .before .before .loop .i) (s .args .network .count) (omega arith) (omega arith) (c .before .before .loop .inv .1))
-
-cast-heard : tie.Need-cast-heard Inv-loop μ-loop
-cast-heard c = search needs
-
-array-copy-out-heard : tie.Need-array-copy-out-heard Inv-loop μ-loop
-array-copy-out-heard c = omega arith
-
-is-refusal-requires : tie.Need-is-refusal-requires Inv-loop μ-loop
-is-refusal-requires c κs = search needs
-
-returns-2 : tie.Need-returns-2 Inv-loop μ-loop
-returns-2 c =
-    let s = c .before .before .before .before .before .before .before in
-    let l = c .before .before .before .before .before .loop in
-    let e : length (s .args .state .answers) ≡ 4 = search (unmapped, needs) in
-    let h : l .i < length (s .args .state .answers) = omega arith in
-    sym (any-found isRefusal (s .args .state .answers) (l .i) (s .args .network .count) _ (omega arith) h (sym (c .before .is-refusal .ensures) ∙ c .if2 .taken))
-
-add-i : tie.Need-add-i Inv-loop μ-loop
-add-i c = omega arith
-
-loop-less : tie.Need-loop-less Inv-loop μ-loop
-loop-less c = omega arith
+    let l = c .before .before .before .before .loop in
+    let a = c .before .before .before .before .before .before .before .args in
+    let e : length (a .state .answers) ≡ 4 = search (unmapped, needs) in
+    let h : l .i < length (a .state .answers) = omega arith in
+    let refused = sym (c .before .is-refusal .ensures) ∙ c .if1 .taken in
+    sym (any-found isRefusal (a .state .answers) (l .i) (a .network .count) _ (omega arith) h refused)
 
 loop-again : tie.Need-loop-again Inv-loop μ-loop
 loop-again c =
-    let s = c .before .before .before .before .before .before .before in
-    let l = c .before .before .before .before .before .loop in
-    (omega arith, any-more isRefusal (s .args .state .answers) (l .i) _ (l .inv .1) (sym (c .before .is-refusal .ensures) ∙ c .if2 .left))
+    let l = c .before .before .before .before .loop in
+    let a = c .before .before .before .before .before .before .before .args in
+    (omega arith, any-more isRefusal (a .state .answers) (l .i) _ (l .inv .1) (sym (c .before .is-refusal .ensures) ∙ c .if1 .left))
 
-returns-3 : tie.Need-returns-3 Inv-loop μ-loop
-returns-3 c =
-    let s = c .before .before .before in
-    let e : length (s .args .state .answers) ≡ 4 = search (unmapped, needs) in
-    sym (any-out isRefusal (s .args .state .answers) (c .before .loop .i) (s .args .network .count) (omega arith) (omega arith) (c .before .loop .inv .1))
+returns-2 : tie.Need-returns-2 Inv-loop μ-loop
+returns-2 c =
+    let l = c .before .loop in
+    let a = c .before .before .before .before .args in
+    let e : length (a .state .answers) ≡ 4 = search (unmapped, needs) in
+    sym (any-end isRefusal (a .state .answers) (l .i) (a .network .count) (omega arith) (l .inv .1))
 
 pub any-refused-spec : {M : Type 1} → statement M
-any-refused-spec =
-    tie.close
-    (tie.spec
-    Inv-loop
-    μ-loop
-    loop-holds
-    cast-loop
-    returns
-    cast-heard
-    array-copy-out-heard
-    is-refusal-requires
-    returns-2
-    add-i
-    loop-less
-    loop-again
-    returns-3)
+any-refused-spec = tie.close (tie.spec Inv-loop μ-loop (λ c κs. search needs) (λ c. unfold any in (omega arith, refl)) (λ c. search needs)
+    (λ c. omega arith) (λ c κs. search needs) returns (λ c. omega arith) (λ c. omega arith) loop-again returns-2)

@@ -1,10 +1,7 @@
--- `network::ticking::is_long` meets its contract. Assumes nothing.
-use mathlib.Core.Path.{refl}
+-- `network::ticking::is_long` meets its contract.
+use Rattle.lists.proofs.Basics.{refl}
 use Rattle.network.proofs.ticking.is_long.Statement.{statement}
 use Rattle.network.proofs.ticking.is_long.Tie as tie
 
-returns : tie.Need-returns
-returns c = refl
-
 pub is-long-spec : {M : Type 1} → statement M
-is-long-spec = tie.close (tie.spec returns)
+is-long-spec = tie.close (tie.spec (λ c. refl))

@@ -1,13 +1,7 @@
--- `records::Record::tell` meets its contract. Assumes nothing.
-use borrow.Author.Needs.{needs}
+-- `records::Record::tell` meets its contract.
+use Rattle.lists.proofs.Basics.{needs}
 use Rattle.records.proofs.Record.tell.Statement.{statement}
 use Rattle.records.proofs.Record.tell.Tie as tie
 
-number-requires : tie.Need-number-requires
-number-requires c κs = search needs
-
-returns : tie.Need-returns
-returns c = simp (c .number .ensures)
-
 pub tell-spec : {M : Type 1} → statement M
-tell-spec = tie.close (tie.spec number-requires returns)
+tell-spec = tie.close (tie.spec (λ c κs. search needs) (λ c. simp (c .number .ensures)))

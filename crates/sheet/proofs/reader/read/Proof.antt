@@ -1,5 +1,5 @@
--- `sheet::reader::read` meets its contract: a `Reader` is made of the bytes and passed to `read_from`. All that the proof knows of `Reader::new` and of `read_from` is that each meets its contract.
--- Assumes nothing.
+-- `sheet::reader::read` meets its contract: a `Reader` is made of the bytes and passed to `read_from`. All that the proof knows of `Reader::new` and
+-- of `read_from` is that each meets its contract.
 use contract.Running.{givenOf, tables, tablesOf}
 use denote.Struct.Laws as LL
 use denote.Triple.Spec.{tripleOf}

@@ -1,5 +1,5 @@
--- `sheet::reader::read_from` meets its contract: the struct is taken apart, and `read_rest` is called on the bytes and the place. All that the proof knows of `read_rest` is that it meets its contract.
--- Assumes nothing.
+-- `sheet::reader::read_from` meets its contract: the struct is taken apart, and `read_rest` is called on the bytes and the place. All that the proof
+-- knows of `read_rest` is that it meets its contract.
 use contract.Running.{givenOf, tables, tablesOf}
 use denote.Struct.Laws as LL
 use denote.Triple.Spec.{tripleOf}

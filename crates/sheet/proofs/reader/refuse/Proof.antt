@@ -1,15 +1,8 @@
--- `sheet::reader::refuse` meets its contract. Assumes nothing.
-use borrow.Author.Needs.{needs}
+-- `sheet::reader::refuse` meets its contract.
+use Rattle.lists.proofs.Basics.{needs}
 use Rattle.sheet.proofs.reader.refuse.Statement.{statement}
 use Rattle.sheet.proofs.reader.refuse.Tie as tie
 use Rattle.sheet.specs.Reading.{refusedAt}
 
-blank-requires : tie.Need-blank-requires
-blank-requires c κs = search needs
-
-returns : tie.Need-returns
-unfolding refusedAt
-returns c = simp (c .blank .ensures)
-
 pub refuse-spec : {M : Type 1} → statement M
-refuse-spec = tie.close (tie.spec blank-requires returns)
+refuse-spec = tie.close (tie.spec (λ c κs. search needs) (λ c. unfold refusedAt in simp (c .blank .ensures)))

@@ -1,10 +1,5 @@
--- `sheet::writer::put_controllers` meets its contract: the fields of the first `i` controllers are stored. Assumes nothing.
-use Prim.Native.Nat.{ℕ, _-_, _≤_}
-use native.Mathlib.Omega.{arith}
-use borrow.Author.Needs.{needs}
-use mathlib.Core.Path.{_≡_}
-use mathlib.Core.List.{List, []}
-use lib.ListN.{length, take}
+-- `sheet::writer::put_controllers` meets its contract: the fields of the first `i` controllers are stored.
+use Rattle.lists.proofs.Basics.{ℕ, _-_, _≤_, arith, needs, _≡_, List, [], length, take}
 use Rattle.lists.specs.Stores.{Stored}
 use Rattle.lists.proofs.Parts.{take-min}
 use Rattle.lists.proofs.Stores.{stored-none, stored-length, stored-more, room-more}
@@ -19,40 +14,23 @@ Inv-loop buffer₀ at count ids to₀ i₀ buffer to i = (i ≤ count) × Stored
 abbrev μ-loop : tie.MeasureT-loop
 μ-loop buffer₀ at count ids to₀ i₀ buffer to i = count - i
 
-at-most-requires : tie.Need-at-most-requires Inv-loop μ-loop
-at-most-requires c κs = search needs
-
-loop-holds : tie.Need-loop-holds Inv-loop μ-loop
-unfolding encodeControllers
-loop-holds c = (omega arith, stored-none _ _)
-
-array-read-put-byte-field : tie.Need-array-read-put-byte-field Inv-loop μ-loop
-array-read-put-byte-field c = omega arith
-
 put-byte-field-requires : tie.Need-put-byte-field-requires Inv-loop μ-loop
 unfolding encodeControllers
 put-byte-field-requires c κs =
-    let s = c .before .before .before .before .before .before in
-    let l = c .before .before .loop in
+    let l = c .before .before .loop in let s = c .before .before .before .before .before .before in
     let e : length (s .args .network .controllers) ≡ 4 = search needs in
-    room-more (λ (ids : List ℕ). encodeControllers ids []) controllers-append (s .args .network .controllers) (l .i) 0 (omega arith) (l .inv .1) (s .args .network .count) (omega arith) (s .pre)
-
-add-i : tie.Need-add-i Inv-loop μ-loop
-add-i c = omega arith
-
-loop-less : tie.Need-loop-less Inv-loop μ-loop
-loop-less c = omega arith
+    room-more (λ (ids : List ℕ). encodeControllers ids []) controllers-append
+    (s .args .network .controllers) (l .i) 0 (omega arith) (l .inv .1) (s .args .network .count) (omega arith) (s .pre)
 
 loop-again : tie.Need-loop-again Inv-loop μ-loop
 unfolding encodeControllers
 loop-again c =
-    let s = c .before .before .before .before .before .before .before .before .before in
-    let l = c .before .before .before .before .before .loop in
-    let e : length (s .args .network .controllers) ≡ 4 = search needs in
-    (omega arith, stored-more (λ (ids : List ℕ). encodeControllers ids []) controllers-append (s .args .network .controllers) (l .i) 0 (omega arith) (l .inv .1) (c .before .before .put-byte-field .ensures))
-
-same-length : tie.Need-same-length Inv-loop μ-loop
-same-length c = stored-length (c .before .loop .inv .1)
+    let l = c .before .before .before .before .before .loop in let s = c .before .before .before .before .before .before .before .before .before in
+    let e : length (s .args .network .controllers) ≡ 4 = search needs in (
+      omega arith,
+      stored-more (λ (ids : List ℕ). encodeControllers ids []) controllers-append
+          (s .args .network .controllers) (l .i) 0 (omega arith) (l .inv .1) (c .before .before .put-byte-field .ensures),
+    )
 
 returns : tie.Need-returns Inv-loop μ-loop
 returns c =
@@ -62,17 +40,6 @@ returns c =
     rw (take-min (s .args .network .controllers) (s .args .network .count) (l .i) (omega arith)) at (l .inv .1)
 
 pub put-controllers-spec : {M : Type 1} → statement M
-put-controllers-spec =
-    tie.close
-    (tie.spec
-    Inv-loop
-    μ-loop
-    at-most-requires
-    loop-holds
-    array-read-put-byte-field
-    put-byte-field-requires
-    add-i
-    loop-less
-    loop-again
-    same-length
+put-controllers-spec = tie.close (tie.spec Inv-loop μ-loop (λ c κs. search needs) (λ c. unfold encodeControllers in (omega arith, stored-none _ _))
+    (λ c. omega arith) put-byte-field-requires (λ c. omega arith) (λ c. omega arith) loop-again (λ c. stored-length (c .before .loop .inv .1))
     returns)

@@ -1,35 +1,28 @@
--- `sheet::writer::put_network` meets its contract: its fields one after the other are the network. Assumes nothing.
-use native.Mathlib.Omega.{arith}
-use mathlib.Core.List.{[]}
+-- `sheet::writer::put_network` meets its contract: its fields one after the other are the network.
+use Rattle.lists.proofs.Basics.{arith, [], needs}
 use Rattle.lists.proofs.Stores.{stored-then}
 use Rattle.sheet.proofs.Writes.{network-fields, length-parts}
-use borrow.Author.Needs.{needs}
 use Rattle.sheet.proofs.writer.put_network.Statement.{statement}
 use Rattle.sheet.proofs.writer.put_network.Tie as tie
 
-partial-value-requires : tie.Need-partial-value-requires
-partial-value-requires c κs = search needs
-
-put-byte-field-requires : tie.Need-put-byte-field-requires
-put-byte-field-requires c κs = omega (arith, length-parts (c .before .before .before .args .network))
-
-put-controllers-requires : tie.Need-put-controllers-requires
-put-controllers-requires c κs = omega (arith, length-parts (c .before .before .before .before .before .before .before .args .network))
-
 put-transceiver-requires : tie.Need-put-transceiver-requires
-put-transceiver-requires c κs = omega (arith, length-parts (c .before .before .before .before .before .before .before .before .before .before .before .args .network))
+put-transceiver-requires c κs =
+    omega (arith, length-parts (c .before .before .before .before .before .before .before .before .before .before .before .args .network))
 
 put-times-requires : tie.Need-put-times-requires
-put-times-requires c κs = omega (arith, length-parts (c .before .before .before .before .before .before .before .before .before .before .before .before .before .before .before .args .network))
+put-times-requires c κs =
+    let s = c .before .before .before .before .before .before .before .before .before .before .before .before .before .before .before in
+    omega (arith, length-parts (s .args .network))
 
 put-byte-field-requires-2 : tie.Need-put-byte-field-requires-2
-put-byte-field-requires-2 c κs = omega (arith, length-parts (c .before .before .before .before .before .before .before .before .before .before .before .before .before .before .before .before .before .before .before .args .network))
+put-byte-field-requires-2 c κs =
+    let b = c .before .before .before .before .before .before .before .before .before in
+    omega (arith, length-parts (b .before .before .before .before .before .before .before .before .before .before .args .network))
 
 put-byte-field-requires-3 : tie.Need-put-byte-field-requires-3
-put-byte-field-requires-3 c κs = omega (arith, length-parts (c .before .before .before .before .before .before .before .before .before .before .before .before .before .before .before .before .before .before .before .before .before .before .before .args .network))
-
-same-length : tie.Need-same-length
-same-length c = search needs
+put-byte-field-requires-3 c κs =
+    let b = c .before .before .before .before .before .before .before .before .before .before .before in
+    omega (arith, length-parts (b .before .before .before .before .before .before .before .before .before .before .before .before .args .network))
 
 returns : tie.Need-returns
 returns c =
@@ -40,18 +33,11 @@ returns c =
     let handle = controllers .before .before .before .before in
     let s = handle .before .before .before .before in
     let e = network-fields (s .args .network) (handle .before .before .partial-value .result) [] (handle .before .before .partial-value .ensures) in
-    rw (← e) (stored-then (handle .put-byte-field .ensures) (stored-then (controllers .put-controllers .ensures) (stored-then (transceiver .put-transceiver .ensures) (stored-then (times .put-times .ensures) (stored-then (threshold .put-byte-field2 .ensures) (c .before .before .put-byte-field3 .ensures))))))
+    rw (← e) (stored-then
+    (handle .put-byte-field .ensures) (stored-then (controllers .put-controllers .ensures) (stored-then (transceiver .put-transceiver .ensures)
+    (stored-then (times .put-times .ensures) (stored-then (threshold .put-byte-field2 .ensures) (c .before .before .put-byte-field3 .ensures))))))
 
 pub put-network-spec : {M : Type 1} → statement M
-put-network-spec =
-    tie.close
-    (tie.spec
-    partial-value-requires
-    put-byte-field-requires
-    put-controllers-requires
-    put-transceiver-requires
-    put-times-requires
-    put-byte-field-requires-2
-    put-byte-field-requires-3
-    same-length
-    returns)
+put-network-spec = tie.close (tie.spec (λ c κs. search needs) (λ c κs. omega (arith, length-parts (c .before .before .before .args .network)))
+    (λ c κs. omega (arith, length-parts (c .before .before .before .before .before .before .before .args .network))) put-transceiver-requires
+    put-times-requires put-byte-field-requires-2 put-byte-field-requires-3 (λ c. search needs) returns)

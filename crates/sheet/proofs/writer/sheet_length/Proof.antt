@@ -1,10 +1,5 @@
--- `sheet::writer::sheet_length` meets its contract: the total is the length of the first `i` networks, of at most 41 bytes each. Assumes nothing.
-use Prim.Native.Nat.{_*_, _-_, _≤_}
-use native.Mathlib.Omega.{arith}
-use borrow.Author.Needs.{needs}
-use mathlib.Core.Path.{_≡_, refl, ap, _∙_}
-use mathlib.Core.List.{List, []}
-use lib.ListN.{length, take, length-map}
+-- `sheet::writer::sheet_length` meets its contract: the total is the length of the first `i` networks, of at most 41 bytes each.
+use Rattle.lists.proofs.Basics.{_*_, _-_, _≤_, arith, needs, _≡_, refl, ap, _∙_, List, [], length, take, length-map}
 use Rattle.lists.proofs.Parts.{take-min}
 use Rattle.lists.proofs.Stores.{length-more}
 use Rattle.settings.specs.declared.Network.{Network}
@@ -19,60 +14,25 @@ Inv-loop count networks total₀ i₀ total i = (i ≤ count) × (total ≡ leng
 abbrev μ-loop : tie.MeasureT-loop
 μ-loop count networks total₀ i₀ total i = count - i
 
-at-most-requires : tie.Need-at-most-requires Inv-loop μ-loop
-at-most-requires c κs = search needs
-
-loop-holds : tie.Need-loop-holds Inv-loop μ-loop
-unfolding encodeNetworks
-loop-holds c = (omega arith, refl, omega arith)
-
-mul-network : tie.Need-mul-network Inv-loop μ-loop
-mul-network c = omega arith
-
-array-copy-out-network : tie.Need-array-copy-out-network Inv-loop μ-loop
-array-copy-out-network c = omega arith
-
-network-length-requires : tie.Need-network-length-requires Inv-loop μ-loop
-network-length-requires c κs = search needs
-
-add-total : tie.Need-add-total Inv-loop μ-loop
-add-total c = omega arith
-
-add-i : tie.Need-add-i Inv-loop μ-loop
-add-i c = omega arith
-
-loop-less : tie.Need-loop-less Inv-loop μ-loop
-loop-less c = omega arith
-
 loop-again : tie.Need-loop-again Inv-loop μ-loop
 unfolding encodeNetworks
 loop-again c =
-    let s = c .before .before .before .before .before .before in
-    let l = c .before .before .before .loop in
-    let e : length (s .args .settings .networks) ≡ 8 = simp length-map at (s .good .0 .1 .1 .0 .1 .0 .1) in
-    (omega arith, length-more (λ (ns : List Network). encodeNetworks ns []) networks-append (s .args .settings .networks) (l .i) _ (omega arith) (l .total) (c .network-length .result) (l .inv .1) (c .network-length .ensures .0), omega arith)
+    let l = c .before .before .before .loop in let s = c .before .before .before .before .before .before in
+    let e : length (s .args .settings .networks) ≡ 8 = simp length-map at (s .good .0 .1 .1 .0 .1 .0 .1) in (
+      omega arith,
+      length-more (λ (ns : List Network). encodeNetworks ns []) networks-append
+          (s .args .settings .networks) (l .i) _ (omega arith) (l .total) (c .network-length .result) (l .inv .1) (c .network-length .ensures .0),
+      omega arith,
+    )
 
 returns : tie.Need-returns Inv-loop μ-loop
 unfolding encode
 returns c =
-    let s = c .before .before .before .before in
-    let l = c .before .loop in
+    let l = c .before .loop in let s = c .before .before .before .before in
     let e : length (s .args .settings .networks) ≡ 8 = simp length-map at (s .good .0 .1 .1 .0 .1 .0 .1) in
-    l .inv .1 ∙ ap (λ (ns : List Network). length (encodeNetworks ns [])) (take-min (s .args .settings .networks) (s .args .settings .count) (l .i) (omega arith))
+    l .inv .1 ∙ ap
+    (λ (ns : List Network). length (encodeNetworks ns [])) (take-min (s .args .settings .networks) (s .args .settings .count) (l .i) (omega arith))
 
 pub sheet-length-spec : {M : Type 1} → statement M
-sheet-length-spec =
-    tie.close
-    (tie.spec
-    Inv-loop
-    μ-loop
-    at-most-requires
-    loop-holds
-    mul-network
-    array-copy-out-network
-    network-length-requires
-    add-total
-    add-i
-    loop-less
-    loop-again
-    returns)
+sheet-length-spec = tie.close (tie.spec Inv-loop μ-loop (λ c κs. search needs) (λ c. unfold encodeNetworks in (omega arith, refl, omega arith))
+    (λ c. omega arith) (λ c. omega arith) (λ c κs. search needs) (λ c. omega arith) (λ c. omega arith) (λ c. omega arith) loop-again returns)

@@ -1,13 +1,7 @@
--- `trace::events::sized` meets its contract. Assumes nothing.
-use borrow.Author.Tests.{eq-eqb, ne-eqb}
+-- `trace::events::sized` meets its contract.
+use Rattle.lists.proofs.Basics.{eq-eqb, ne-eqb}
 use Rattle.trace.proofs.events.sized.Statement.{statement}
 use Rattle.trace.proofs.events.sized.Tie as tie
 
-returns : tie.Need-returns
-returns c = simp (eq-eqb _ _ (c .if1 .taken))
-
-returns-2 : tie.Need-returns-2
-returns-2 c = simp (ne-eqb _ _ (c .if1 .left))
-
 pub sized-spec : {M : Type 1} → statement M
-sized-spec = tie.close (tie.spec returns returns-2)
+sized-spec = tie.close (tie.spec (λ c. simp (eq-eqb _ _ (c .if1 .taken))) (λ c. simp (ne-eqb _ _ (c .if1 .left))))

@@ -1,21 +1,9 @@
--- `trace::events::value_byte` meets its contract. Assumes nothing.
-use mathlib.Core.Path.{sym}
-use borrow.Author.Needs.{needs}
+-- `trace::events::value_byte` meets its contract.
+use Rattle.lists.proofs.Basics.{sym, needs}
 use Rattle.entries.proofs.Laws.{value-byte}
 use Rattle.trace.proofs.EventLaws.{value-over}
 use Rattle.trace.proofs.events.value_byte.Statement.{statement}
 use Rattle.trace.proofs.events.value_byte.Tie as tie
-
-add-result : tie.Need-add-result
-add-result c = search needs
-
-shared-slice-read-result : tie.Need-shared-slice-read-result
-shared-slice-read-result c = search needs
-
-returns : tie.Need-returns
-returns c =
-    let a = c .before .before .args in
-    sym (value-byte (a .bytes .now) (a .at) (a .length) (a .i) (c .before .if1 .taken))
 
 returns-2 : tie.Need-returns-2
 returns-2 c =
@@ -23,4 +11,5 @@ returns-2 c =
     sym (value-over (s .args .bytes .now) (s .args .at) (s .args .length) (s .args .i) (s .pre) (c .if1 .left))
 
 pub value-byte-spec : {M : Type 1} → statement M
-value-byte-spec = tie.close (tie.spec add-result shared-slice-read-result returns returns-2)
+value-byte-spec = tie.close (tie.spec (λ c. search needs) (λ c. search needs)
+    (λ c. let a = c .before .before .args in sym (value-byte (a .bytes .now) (a .at) (a .length) (a .i) (c .before .if1 .taken))) returns-2)

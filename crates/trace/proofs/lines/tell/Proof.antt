@@ -1,66 +1,32 @@
--- `trace::lines::tell` meets its contract. Assumes nothing.
-use native.Mathlib.Omega.{arith}
-use borrow.Author.Needs.{needs}
-use mathlib.Core.Path.{refl, ap}
+-- `trace::lines::tell` meets its contract.
+use Rattle.lists.proofs.Basics.{arith, needs, refl, ap}
 use Rattle.lists.proofs.Stores.{stored-length}
-use Rattle.manager.specs.declared.Outcome.{Outcome}
+use Rattle.slots.specs.declared.Outcome.{Outcome}
 use Rattle.trace.proofs.Telling.{event-fits, event-stored}
 use Rattle.trace.proofs.lines.tell.Statement.{statement}
 use Rattle.trace.proofs.lines.tell.Tie as tie
 
-slice-aggregate-run-event : tie.Need-slice-aggregate-run-event
-slice-aggregate-run-event c = search needs
-
-run-event-requires : tie.Need-run-event-requires
-run-event-requires c κs = search needs
-
-number-requires : tie.Need-number-requires
-number-requires c κs = search needs
-
-put-answer-requires : tie.Need-put-answer-requires
-put-answer-requires c κs = search needs
-
-is-poll-requires : tie.Need-is-poll-requires
-is-poll-requires c κs = search needs
-
-slice-aggregate-put-said : tie.Need-slice-aggregate-put-said
-slice-aggregate-put-said c = search needs
-
 put-said-requires : tie.Need-put-said-requires
 put-said-requires c κs =
-    let a = c .before .before .before .before .before .before .before .before .before .before .before .before .args in
-    let ran = c .before .before .before .before .before .before .before .before .before .run-event in
-    let fits = event-fits (a .manager) (a .event) (ran .result) _ (ran .ensures .0) (ran .ensures .1) in
+    let b = c .before .before .before .before .before .before .before .before .before in let a = b .before .before .before .args in
+    let ran = b .run-event in
+    let fits = event-fits (a .manager) (a .event) (ran .result) _ (ran .ensures) in
     let answer = c .before .before .before .before .before .put-answer .ensures in
-    (fits .0, (fits .1, omega (arith, answer .1, stored-length (answer .0), c .before .before .before .before .before .before .before .before .before .before .before .before .pre)))
-
-put-byte-requires : tie.Need-put-byte-requires
-put-byte-requires c κs = search needs
-
-same-length : tie.Need-same-length
-same-length c = search needs
+    (fits .0, (fits .1, omega (arith, answer .1, stored-length (answer .0), b .before .before .before .pre)))
 
 returns : tie.Need-returns
 returns c =
-    let a = c .before .before .before .before .before .before .before .before .before .before .before .before .before .before .before .before .before .before .before .before .args in
-    let ran = c .before .before .before .before .before .before .before .before .before .before .before .before .before .before .before .before .before .run-event in (
-      ap (λ (o : Outcome). o .manager) (ran .ensures .0),
-      refl,
-      event-stored (a .number) (a .manager) (a .event) (ran .result) _ (c .before .before .before .before .before .before .before .before .before .before .before .before .before .before .number .result) (c .before .before .before .before .before .before .before .before .before .is-poll .result) (ran .ensures .0) (ran .ensures .1)
-          (c .before .before .before .before .before .before .before .before .before .before .before .before .before .before .number .ensures) (c .before .before .before .before .before .before .before .before .before .is-poll .ensures) (c .before .before .before .before .before .before .before .before .before .before .before .before .before .put-answer .ensures .0) (c .before .before .before .before .before .before .before .put-said .ensures .0) (c .before .before .before .put-byte .ensures),
-    )
+    let said = c .before .before .before .before .before .before .before in let polled = said .before .before in
+    let answered = polled .before .before .before .before in let number = answered .before in let ran = number .before .before .before in
+    let a = ran .before .before .before .args in
+    record {
+      manager-after = ap (λ (o : Outcome). o .manager) (ran .run-event .ensures .result);
+      next-place = refl;
+      line = event-stored (a .number) (a .manager) (a .event) _ _ _ _ (ran .run-event .ensures)
+          (number .number .ensures) (polled .is-poll .ensures)
+          (answered .put-answer .ensures .0) (said .put-said .ensures .0) (c .before .before .before .put-byte .ensures);
+    }
 
 pub tell-spec : {M : Type 1} → statement M
-tell-spec =
-    tie.close
-    (tie.spec
-    slice-aggregate-run-event
-    run-event-requires
-    number-requires
-    put-answer-requires
-    is-poll-requires
-    slice-aggregate-put-said
-    put-said-requires
-    put-byte-requires
-    same-length
-    returns)
+tell-spec = tie.close (tie.spec (λ c. search needs) (λ c κs. search needs) (λ c κs. search needs) (λ c κs. search needs) (λ c κs. search needs)
+    (λ c. search needs) put-said-requires (λ c κs. search needs) (λ c. search needs) returns)

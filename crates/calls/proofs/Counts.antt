@@ -1,0 +1,42 @@
+-- The count returned is the number of records handed out, and they have room in the lent buffer.
+use Rattle.lists.proofs.Basics.{ℕ, _*_, _≤_, arith, ltb-false, _≡_, refl, ap, List, [], _∷_, _++_, true, false≢true, length}
+use Rattle.records.specs.declared.Record.{Record}
+use Rattle.records.specs.Records.{bytes, recordsAt}
+use Rattle.slots.specs.declared.Manager.{Manager}
+use Rattle.slots.specs.declared.Outcome.{Outcome}
+use Rattle.slots.specs.Manager.{networksOf, tickNeeds}
+use Rattle.slots.specs.Calls.{Call, allTicked, outcome, handedOut, bufferWith, Gives}
+use Rattle.manager.proofs.Ticks.{records-shares}
+use Rattle.calls.specs.Histories.{roomOf, countsRecords}
+use Rattle.calls.proofs.ByCall.{ByCall, by-call}
+
+-- the records fit into the bytes that were lent, and the count is their number
+pub record Counted (c : Call) (o : Outcome) (rs : List Record) : Type 0 where
+  pub count : countsRecords c ≡ true → o .count ≡ length rs
+  pub room : 3 * length rs ≤ roomOf c
+
+pub counted : (m : Manager) (c : Call) → Counted c (outcome m c) (handedOut m c)
+unfolding allTicked tickNeeds
+counted m = by-call m Counted (record {
+  refuses = λ c a r f. record { count = λ _. refl; room = omega arith };
+  declines = λ c id sight i a e f d r. record { count = λ _. refl; room = omega arith };
+  takes = λ c id sight i e f t room. record { count = λ _. refl; room = room };
+  ticks = λ room s e. record { count = λ _. refl; room = omega (arith, ltb-false room (tickNeeds m) e, records-shares (networksOf m) (m .states)) };
+  polls = λ handle i f. record { count = λ _. refl; room = omega arith };
+  reads = λ bytes f e. record { count = λ e. absurd (false≢true e); room = omega arith };
+  misreads = λ bytes fault f. record { count = λ e. absurd (false≢true e); room = omega arith };
+  writes = λ room f. record { count = λ e. absurd (false≢true e); room = omega arith };
+  starts = λ e. record { count = λ _. refl; room = omega arith };
+})
+
+-- records that were written from the front of a buffer are read back
+pub records-back : (rs : List Record) (rest : List ℕ) → recordsAt (length rs) (bytes rs ++ rest) ≡ rs
+unfolding recordsAt bytes
+records-back [] rest = refl
+records-back (r ∷ rs) rest = ap (λ (l : List Record). r ∷ l) (records-back rs rest)
+
+-- what a call leaves in its lent buffer, read up to its count, is what it hands out
+pub handed-back : (m : Manager) (c : Call) (b : List ℕ) (r : Outcome) (after : List ℕ) → countsRecords c ≡ true → Gives m c b r after
+    → recordsAt (r .count) after ≡ handedOut m c
+unfolding bufferWith
+handed-back m c b r after e g = rw (g .buffer, g .result, counted m c .count e) (records-back (handedOut m c) _)

@@ -1,0 +1,2 @@
+pub mod ByCall
+pub mod Counts

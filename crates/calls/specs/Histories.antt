@@ -1,0 +1,130 @@
+-- Histories: calls with the answers and the records that they gave; the managers that calls can lead to; and how one network sees a call.
+use Prim.Native.Nat.{ℕ}
+use mathlib.Core.Path.{_≡_}
+use mathlib.Core.List.{List, [], _∷_}
+use mathlib.Core.Bool.{Bool, true, false, cond}
+use lib.Dec.{eqb, ltb}
+use Rattle.lists.specs.Lists.{Bytes}
+use Rattle.records.specs.declared.Record.{Record}
+use Rattle.settings.specs.declared.Network.{Network}
+use Rattle.settings.specs.declared.Id.{Id}
+use Rattle.settings.specs.Settings.{has}
+use Rattle.network.specs.declared.Report.{Report}
+use Rattle.network.specs.Parts.{Sight, aTick, aBusOff, anAnswer, aRequest, aReport, nothing}
+use Rattle.slots.specs.declared.Stage.{Stage}
+use Rattle.slots.specs.declared.Answer.{Answer}
+use Rattle.slots.specs.declared.Manager.{Manager}
+use Rattle.slots.specs.Manager.{answerNumber}
+use Rattle.slots.specs.Calls.{Call, read, write, start, request, poll, busOff, answer, transceiverMode, clearDone, checkDone, tick, newManager}
+use Rattle.slots.specs.Calls.{busOffNeeds, outcome, handedOut}
+
+-- the one answer that is no refusal: "0 means accepted"
+abbrev pub isAccepted : Answer → Bool
+isAccepted a = eqb 0 (answerNumber a)
+
+-- a call with the number of its answer (0: accepted), the polled mode, and the records that it handed out
+pub record Entry : Type 0 where
+  pub call : Call
+  pub number : ℕ
+  pub mode : ℕ
+  pub records : List Record
+
+-- what a call on a manager adds to its history
+abbrev pub entryOf : Manager → Call → Entry
+entryOf m c = record { call = c; number = answerNumber (outcome m c .answer); mode = outcome m c .mode; records = handedOut m c }
+
+-- a history has the latest call first
+abbrev pub History : Type 0
+History = List Entry
+
+-- the calls of a history, on a manager: the manager after them, and each answer and record as the calls give it
+pub data Since (m₀ : Manager) : Manager → History → Type 0 where
+  begun : Since m₀ m₀ []
+  goes : (m : Manager) (h : History) (c : Call) → Since m₀ m h → Since m₀ (outcome m c .manager) (entryOf m c ∷ h)
+
+-- what a manager that is not started reads are bytes
+abbrev pub ReadsBytes : Manager → Call → Type 0
+ReadsBytes m c = (bytes : List ℕ) → c ≡ read bytes → (m .stage ≡ Stage.Started → ⊥) → Bytes bytes
+
+-- the managers that any sequence of calls can lead to: a new one, or one call more
+pub data Reached : Manager → Type 0 where
+  at-new : Reached newManager
+  after : (m : Manager) (c : Call) → ReadsBytes m c → Reached m → Reached (outcome m c .manager)
+
+-- ---- how one network sees a call
+
+-- whom a call concerns: the network that has an id, and what it is to that network; every network; or none
+pub data Address : Type 0 where
+  to : (id : Id) (sight : Sight) → Address
+  toAll : Address
+  toNobody : Address
+
+-- a bus-off without room for its records concerns nobody
+abbrev pub addressOf : Call → Address
+addressOf (read bytes) = toNobody
+addressOf (write room) = toNobody
+addressOf start = toNobody
+addressOf (request handle mode) = to (Id.OfNetwork handle) (aRequest mode)
+addressOf (poll handle) = toNobody
+addressOf (busOff controller room) = cond (ltb room busOffNeeds) toNobody (to (Id.OfController controller) aBusOff)
+addressOf (answer controller mode ok) = to (Id.OfController controller) (anAnswer controller mode ok)
+addressOf (transceiverMode transceiver mode) = to (Id.OfTransceiver transceiver) (aReport (Report.Transceiver mode))
+addressOf (clearDone transceiver) = to (Id.OfTransceiver transceiver) (aReport Report.Cleared)
+addressOf (checkDone transceiver) = to (Id.OfTransceiver transceiver) (aReport Report.Checked)
+addressOf (tick room) = toAll
+
+-- what it is to one network: "a refused tick counts nowhere as a tick"
+abbrev pub seenAs : Network → Bool → Address → Sight
+seenAs n accepted (to id sight) = cond (has id n) sight nothing
+seenAs n accepted toAll = cond accepted aTick nothing
+seenAs n accepted toNobody = nothing
+
+-- ---- the answers that each call can have
+
+-- the refusals whose row of the table can apply to such a call, in the order in which they are tested
+abbrev pub refusalsOf : Call → List ℕ
+refusalsOf (read bytes) = 0x0B ∷ 0x30 ∷ 0x31 ∷ 0x32 ∷ 0x33 ∷ 0x34 ∷ 0x35 ∷ 0x36 ∷ 0x37 ∷ 0x38 ∷ []
+refusalsOf (write room) = 0x01 ∷ 0x20 ∷ []
+refusalsOf start = 0x01 ∷ 0x0B ∷ []
+refusalsOf (request handle mode) = 0x01 ∷ 0x03 ∷ 0x21 ∷ 0x08 ∷ []
+refusalsOf (poll handle) = 0x01 ∷ 0x03 ∷ []
+refusalsOf (busOff controller room) = 0x01 ∷ 0x20 ∷ 0x04 ∷ 0x22 ∷ []
+refusalsOf (answer controller mode ok) = 0x01 ∷ 0x04 ∷ 0x21 ∷ 0x22 ∷ []
+refusalsOf (transceiverMode transceiver mode) = 0x01 ∷ 0x05 ∷ 0x21 ∷ 0x22 ∷ []
+refusalsOf (clearDone transceiver) = 0x01 ∷ 0x05 ∷ 0x22 ∷ []
+refusalsOf (checkDone transceiver) = 0x01 ∷ 0x05 ∷ 0x22 ∷ []
+refusalsOf (tick room) = 0x01 ∷ 0x20 ∷ []
+
+-- "0 means accepted"
+abbrev pub answersOf : Call → List ℕ
+answersOf c = 0 ∷ refusalsOf c
+
+-- ---- lent buffers
+
+-- how many bytes it is lent for records
+abbrev pub roomOf : Call → ℕ
+roomOf (read bytes) = 0
+roomOf (write room) = 0
+roomOf start = 0
+roomOf (request handle mode) = 0
+roomOf (poll handle) = 0
+roomOf (busOff controller room) = room
+roomOf (answer controller mode ok) = 0
+roomOf (transceiverMode transceiver mode) = 0
+roomOf (clearDone transceiver) = 0
+roomOf (checkDone transceiver) = 0
+roomOf (tick room) = room
+
+-- its count is that of the records: a reading counts networks, and the writer bytes
+abbrev pub countsRecords : Call → Bool
+countsRecords (read bytes) = false
+countsRecords (write room) = false
+countsRecords start = true
+countsRecords (request handle mode) = true
+countsRecords (poll handle) = true
+countsRecords (busOff controller room) = true
+countsRecords (answer controller mode ok) = true
+countsRecords (transceiverMode transceiver mode) = true
+countsRecords (clearDone transceiver) = true
+countsRecords (checkDone transceiver) = true
+countsRecords (tick room) = true

@@ -1,0 +1,1 @@
+// No code: how a call of the manager is taken apart, and histories of calls.

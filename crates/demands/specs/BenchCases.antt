@@ -1,0 +1,149 @@
+-- The bench cases B1 to B12 of document 01, section "Bench cases", as a single list under a single statement about the definitions, by
+-- computation. "Where they count ticks, full stays wanted, each request is answered ok before the next tick and no other bus-off comes."
+use Prim.Native.Nat.{ℕ}
+use mathlib.Core.Path.{_≡_, refl}
+use mathlib.Core.List.{List, [], _∷_, _++_, map}
+use lib.ListN.{take, drop, set}
+use Rattle.sheet.specs.Bench.{benchSheet}
+use Rattle.records.specs.declared.Record.{Record}
+use Rattle.records.specs.Records.{handed}
+use Rattle.slots.specs.declared.Manager.{Manager}
+use Rattle.slots.specs.declared.Outcome.{Outcome}
+use Rattle.slots.specs.Manager.{answerNumber}
+use Rattle.slots.specs.Calls.{Call, read, start, request, poll, busOff, answer, tick, newManager, outcome, handedOut, run}
+use Rattle.calls.specs.Computed.{computedOutcome}
+
+-- what a call gives: its number, count, polled mode, place, and the records that it hands out
+pub record Seen : Type 0 where
+  pub number : ℕ
+  pub count : ℕ
+  pub mode : ℕ
+  pub place : ℕ
+  pub records : List Record
+
+-- an outcome with its answer as a number, beside the records; the next manager is left out
+abbrev pub seenOf : Outcome → List Record → Seen
+seenOf o rs = record { number = answerNumber (o .answer); count = o .count; mode = o .mode; place = o .place; records = rs }
+
+-- what each of the calls gives, one after the other
+unfoldable pub seen : Manager → List Call → List Seen
+seen m [] = []
+seen m (c ∷ cs) = seenOf (outcome m c) (handedOut m c) ∷ seen (outcome m c .manager) cs
+
+-- calls that come before, on a new manager; the calls that are looked at, and what they give
+pub record Case : Type 0 where
+  pub before : List Call
+  pub calls : List Call
+  pub expected : List Seen
+
+-- one bench case as one line of the list
+abbrev case : List Call → List Call → List Seen → Case
+case before calls expected = record { before = before; calls = calls; expected = expected }
+
+-- a reading that is refused with a number at a place
+abbrev refusedAtPlace : ℕ → ℕ → Seen
+refusedAtPlace number place = record { number = number; count = 0; mode = 0; place = place; records = [] }
+
+-- B2 and B7: accepted; "the number of networks and, as place, the sheet's length" are 1 and 25
+abbrev sheetTaken : Seen
+sheetTaken = record { number = 0; count = 1; mode = 0; place = 25; records = [] }
+
+-- a refusal of any other call
+abbrev refusedWith : ℕ → Seen
+refusedWith number = record { number = number; count = 0; mode = 0; place = 0; records = [] }
+
+-- accepted, and nothing is handed out: a controller's answer, or a tick that only counts
+abbrev taken : Seen
+taken = record { number = 0; count = 0; mode = 0; place = 0; records = [] }
+
+-- accepted with one record: a request to the one controller, its TX offline, or 8 passed
+abbrev takenWith : Record → Seen
+takenWith r = record { number = 0; count = 1; mode = 0; place = 0; records = r ∷ [] }
+
+-- accepted with three records, which fill the 9 lent bytes
+abbrev takenWithThree : Record → Record → Record → Seen
+takenWithThree r s t = record { number = 0; count = 3; mode = 0; place = 0; records = r ∷ s ∷ t ∷ [] }
+
+-- the poll after the fourth tick of B9: the polled mode is 2, full
+abbrev polledFull : Seen
+polledFull = record { number = 0; count = 0; mode = 2; place = 0; records = [] }
+
+-- "3 online for each, 6 full, 7 full", of controller 3 and handle 7
+abbrev fullTold : Seen
+fullTold = takenWithThree (handed 3 3 0) (handed 6 7 2) (handed 7 7 2)
+
+-- "8 prefailed, 6 silent, 7 bus-off", of handle 7
+abbrev busOffTold : Seen
+busOffTold = takenWithThree (handed 8 7 1) (handed 6 7 1) (handed 7 7 3)
+
+-- ---- the calls
+
+-- a tick with the bytes that it needs
+abbrev ticks : Call
+ticks = tick 9
+
+-- the started manager goes down to step 0
+abbrev pub down : List Call
+down = ticks ∷ answer 3 0 1 ∷ ticks ∷ answer 3 2 1 ∷ ticks ∷ []
+
+-- full is wanted, and told: step 4
+abbrev pub up : List Call
+up = request 7 2 ∷ ticks ∷ answer 3 0 1 ∷ ticks ∷ answer 3 1 1 ∷ ticks ∷ []
+
+-- the bench sheet is read, the manager started, and the network has come to step 0: here B11 asks for silent
+abbrev atRest : List Call
+atRest = read benchSheet ∷ start ∷ down
+
+-- full was told on the last of these ticks: step 4 with tick count 0
+abbrev inStep4 : List Call
+inStep4 = atRest ++ up
+
+-- three ticks more, the ensure time, and passed was told: step 5, where B9 and B10 begin
+abbrev inStep5 : List Call
+inStep5 = inStep4 ++ (ticks ∷ ticks ∷ ticks ∷ [])
+
+-- a bus-off, and the network is restarted: step 7
+abbrev back : List Call
+back = busOff 3 9 ∷ ticks ∷ answer 3 1 1 ∷ ticks ∷ []
+
+-- what the calls of `back` give: the records of a bus-off, the request to start, an answer that is taken, TX offline
+abbrev backSeen : List Seen
+backSeen = busOffTold ∷ takenWith (handed 1 3 1) ∷ taken ∷ takenWith (handed 3 3 1) ∷ []
+
+-- "They stand as a single list under a single proved statement about the definitions"
+abbrev pub benchCases : List Case
+benchCases =
+    -- B1 empty: 38 at 0
+    case [] (read [] ∷ []) (refusedAtPlace 0x38 0 ∷ [])
+    -- B2 the sheet: accepted, one network
+    ∷ case [] (read benchSheet ∷ []) (sheetTaken ∷ [])
+    -- B3 its first 24 bytes: 30 at 21
+    ∷ case [] (read (take 24 benchSheet) ∷ []) (refusedAtPlace 0x30 21 ∷ [])
+    -- B4 its first 21: 30 at 21
+    ∷ case [] (read (take 21 benchSheet) ∷ []) (refusedAtPlace 0x30 21 ∷ [])
+    -- B5 L1 zero: 34 at 8
+    ∷ case [] (read (set benchSheet 12 0) ∷ []) (refusedAtPlace 0x34 8 ∷ [])
+    -- B6 the controller field twice: 35 at 8
+    ∷ case [] (read (take 8 benchSheet ++ drop 4 benchSheet) ∷ []) (refusedAtPlace 0x35 8 ∷ [])
+    -- B7 threshold 254 accepted, 255: 34 at 17
+    ∷ case [] (read (set benchSheet 20 254) ∷ read (set benchSheet 20 255) ∷ []) (sheetTaken ∷ refusedAtPlace 0x34 17 ∷ [])
+    -- B8 PN 1: 37 at 21
+    ∷ case [] (read (set benchSheet 24 1) ∷ []) (refusedAtPlace 0x37 21 ∷ [])
+    -- B9 one bus-off in step 5: full on the fourth tick
+    ∷ case inStep5 (back ++ (ticks ∷ ticks ∷ poll 7 ∷ [])) (backSeen ++ (taken ∷ fullTold ∷ polledFull ∷ []))
+    -- a second one in step 7: full on the seventh tick after it
+    ∷ case (inStep5 ++ back) (back ++ (ticks ∷ ticks ∷ ticks ∷ ticks ∷ ticks ∷ [])) (backSeen ++ (taken ∷ taken ∷ taken ∷ taken ∷ fullTold ∷ []))
+    -- B10 a started answer between bus-off and next tick: 22
+    ∷ case inStep5 (busOff 3 9 ∷ answer 3 1 1 ∷ []) (busOffTold ∷ refusedWith 0x22 ∷ [])
+    -- B11 silent asked for in step 0: 08
+    ∷ case atRest (request 7 1 ∷ []) (refusedWith 0x08 ∷ [])
+    -- B12 a tick with 8 bytes: 20; with 9: accepted
+    ∷ case (read benchSheet ∷ start ∷ []) (tick 8 ∷ tick 9 ∷ []) (refusedWith 0x20 ∷ takenWith (handed 1 3 0) ∷ [])
+    -- After full is told, passed comes on the third tick
+    ∷ case inStep4 (ticks ∷ ticks ∷ ticks ∷ []) (taken ∷ taken ∷ takenWith (handed 8 7 0) ∷ [])
+    ∷ []
+
+-- B1 to B12: the definitions give just this
+pub bench : map (λ (c : Case). seen (run newManager (c .before)) (c .calls)) benchCases ≡ map (λ (c : Case). c .expected) benchCases
+unfolding computedOutcome seen
+bench = refl

@@ -1,0 +1,104 @@
+-- What one network makes of a call: its reply, its record after the call, and the records that it hands out. The manager's outcome of a call that
+-- names an
+-- id is this part of the network that has it.
+use Prim.Native.Nat.{ℕ}
+use mathlib.Core.List.{List, []}
+use mathlib.Core.Bool.{Bool, true, false, cond}
+use lib.Dec.{eqb, ltb}
+use Rattle.records.specs.declared.Mode.{Mode}
+use Rattle.records.specs.declared.Record.{Record}
+use Rattle.settings.specs.declared.Network.{Network}
+use Rattle.network.specs.declared.Hit.{Hit}
+use Rattle.network.specs.declared.Part.{Part}
+use Rattle.network.specs.declared.Reply.{Reply}
+use Rattle.network.specs.declared.Report.{Report}
+use Rattle.network.specs.declared.State.{State}
+use Rattle.network.specs.State.{wants, mayWant}
+use Rattle.network.specs.Moving.{tickState, tickRecords}
+use Rattle.network.specs.Answers.{takesReport, afterAnswer, afterReport}
+use Rattle.network.specs.BusOff.{hitOf, afterHit, hitRecords}
+
+-- what a call is to one network: a tick, a bus-off of one of its controllers, an answer of one, a request for it, a report of its transceiver, or
+-- nothing
+-- of its own
+pub data Sight : Type 0 where
+  aTick : Sight
+  aBusOff : Sight
+  anAnswer : (controller mode ok : ℕ) → Sight
+  aRequest : (mode : ℕ) → Sight
+  aReport : (report : Report) → Sight
+  nothing : Sight
+
+-- the one reply that is no refusal
+abbrev pub isTaken : Reply → Bool
+isTaken Reply.Taken = true
+isTaken Reply.OutOfRange = false
+isTaken Reply.NotUp = false
+isTaken Reply.NotTaken = false
+
+-- taken: the record is new
+abbrev pub taken : State → Part
+taken s = record { reply = Reply.Taken; state = s }
+
+-- refused: the record stays as it was
+abbrev pub declined : State → Reply → Part
+declined s reply = record { reply = reply; state = s }
+
+-- a request for one of the three modes: it is stored, or refused with 08
+unfoldable pub wantedPart : State → Mode → Part
+wantedPart s mode = cond (mayWant (s .step) mode) (taken (wants s mode)) (declined s Reply.NotUp)
+
+-- a request with the mode as a number: 21 where it is none of the three
+unfoldable pub requestPart : State → ℕ → Part
+requestPart s mode =
+    cond (eqb mode 0) (wantedPart s Mode.No)
+    (cond (eqb mode 1) (wantedPart s Mode.Silent) (cond (eqb mode 2) (wantedPart s Mode.Full) (declined s Reply.OutOfRange)))
+
+-- a mode that is reported and is none of 0 to 2
+abbrev pub outOfRange : Report → Bool
+outOfRange (Report.Controller mode) = ltb 2 mode
+outOfRange (Report.Transceiver mode) = ltb 2 mode
+outOfRange Report.Cleared = false
+outOfRange Report.Checked = false
+
+-- what is reported: 21 for a mode out of its range; where the step takes it, the record is `after`; else 22
+unfoldable pub takenPart : State → Report → State → Part
+takenPart s report after =
+    cond (outOfRange report) (declined s Reply.OutOfRange) (cond (takesReport s report) (taken after) (declined s Reply.NotTaken))
+
+-- a report of the transceiver
+unfoldable pub reportPart : State → Report → Part
+reportPart s report = takenPart s report (afterReport s)
+
+-- an answer of a controller: 21 for an ok value above 1 too
+unfoldable pub answerPart : Network → State → ℕ → ℕ → ℕ → Part
+answerPart n s controller mode ok =
+    cond (ltb 1 ok) (declined s Reply.OutOfRange) (takenPart s (Report.Controller mode) (afterAnswer n s controller (eqb ok 1)))
+
+-- a bus-off, by what it does to the step
+abbrev pub hitReply : Hit → Reply
+hitReply Hit.Recover = Reply.Taken
+hitReply Hit.Restart = Reply.Taken
+hitReply Hit.NotTaken = Reply.NotTaken
+
+-- and the record after it
+unfoldable pub hitPart : State → Hit → Part
+hitPart s hit = record { reply = hitReply hit; state = afterHit s hit }
+
+-- the reply to a call and the record after it
+unfoldable pub partOf : Network → State → Sight → Part
+partOf n s aTick = taken (tickState n s)
+partOf n s aBusOff = hitPart s (hitOf (s .step))
+partOf n s (anAnswer controller mode ok) = answerPart n s controller mode ok
+partOf n s (aRequest mode) = requestPart s mode
+partOf n s (aReport report) = reportPart s report
+partOf n s nothing = taken s
+
+-- the records that the network hands out on it
+unfoldable pub recordsOf : Network → State → Sight → List Record
+recordsOf n s aTick = tickRecords n s
+recordsOf n s aBusOff = hitRecords n (hitOf (s .step))
+recordsOf n s (anAnswer controller mode ok) = []
+recordsOf n s (aRequest mode) = []
+recordsOf n s (aReport report) = []
+recordsOf n s nothing = []

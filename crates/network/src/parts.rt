@@ -1,0 +1,81 @@
+// What a network makes of a call that names it.
+use crate::Part;
+use crate::Reply;
+use crate::Report;
+use crate::State;
+use crate::answers::takes;
+use crate::answers::with_answer;
+use crate::answers::with_report;
+use records::Mode;
+use settings::Network;
+ghost use mathlib.Core.Path.{_≡_};
+ghost use Rattle.network.specs.Parts.{wantedPart, requestPart, outOfRange, takenPart, reportPart, answerPart};
+
+// The mode is stored where it may be asked for.
+fn want_mode(state: State, mode: Mode) -> Part
+    ensures { λ r. ⌜ r ≡ wantedPart state mode ⌝ }
+{
+    if state.may_want(mode) {
+        let next = state.want(mode);
+        return Part::take(next);
+    }
+    Part::decline(state, Reply::NotUp)
+}
+
+// A communication mode is wanted, by its number.
+pub fn request_part(state: State, mode: u8) -> Part
+    ensures { λ r. ⌜ r ≡ requestPart state mode ⌝ }
+{
+    if mode == Mode::NO {
+        return want_mode(state, Mode::No);
+    }
+    if mode == Mode::SILENT {
+        return want_mode(state, Mode::Silent);
+    }
+    if mode == Mode::FULL {
+        return want_mode(state, Mode::Full);
+    }
+    Part::decline(state, Reply::OutOfRange)
+}
+
+fn is_out_of_range(report: Report) -> bool
+    ensures { λ r. ⌜ r ≡ outOfRange report ⌝ }
+{
+    match report {
+        Report::Controller(mode) => Report::MOST_MODE < mode,
+        Report::Transceiver(mode) => Report::MOST_MODE < mode,
+        Report::Cleared => false,
+        Report::Checked => false,
+    }
+}
+
+// The record after it, where the step takes the report.
+fn take_report(state: State, report: Report, after: State) -> Part
+    ensures { λ r. ⌜ r ≡ takenPart state report after ⌝ }
+{
+    if is_out_of_range(report) {
+        return Part::decline(state, Reply::OutOfRange);
+    }
+    if takes(state, report) {
+        return Part::take(after);
+    }
+    Part::decline(state, Reply::NotTaken)
+}
+
+// A report of the transceiver.
+pub fn report_part(state: State, report: Report) -> Part
+    ensures { λ r. ⌜ r ≡ reportPart state report ⌝ }
+{
+    take_report(state, report, with_report(state))
+}
+
+// A controller answers the request for a mode: ok (1) or not (0).
+pub fn answer_part(network: Network, state: State, id: u8, mode: u8, ok: u8) -> Part
+    ensures { λ r. ⌜ r ≡ answerPart network state id mode ok ⌝ }
+{
+    if Report::OK < ok {
+        return Part::decline(state, Reply::OutOfRange);
+    }
+    let after = with_answer(network, state, id, ok == Report::OK);
+    take_report(state, Report::Controller(mode), after)
+}

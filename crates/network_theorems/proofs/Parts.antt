@@ -1,0 +1,107 @@
+-- A network's part in a call, taken apart once: whatever holds of each thing that can come of a call holds of its part.
+use Rattle.lists.proofs.Tests.{split}
+use Rattle.lists.proofs.Basics.{ℕ, eqb-true, _≡_, refl, List, [], true, false, true≢false, eqb, ltb}
+use Rattle.lists.specs.Lists.{any, every}
+use Rattle.records.specs.declared.Mode.{Mode}
+use Rattle.records.specs.declared.Record.{Record}
+use Rattle.records.specs.Records.{modeNumber}
+use Rattle.settings.specs.declared.Network.{Network}
+use Rattle.settings.specs.Good.{InRange}
+use Rattle.steps.specs.Steps.{asksFor, asksToStart, isUp}
+use Rattle.handing.specs.Handing.{ownRecord}
+use Rattle.network.specs.declared.Hit.{Hit}
+use Rattle.network.specs.declared.Part.{Part}
+use Rattle.network.specs.declared.Reply.{Reply}
+use Rattle.network.specs.declared.Report.{Report}
+use Rattle.network.specs.declared.State.{State}
+use Rattle.network.specs.State.{wants, mayWant}
+use Rattle.network.specs.Answers.{takesReport, afterAnswer}
+use Rattle.network.specs.BusOff.{hitOf, afterHit, hitRecords}
+use Rattle.network.specs.Parts.{Sight, aTick, aBusOff, anAnswer, aRequest, aReport, nothing, isTaken, taken, declined, wantedPart, requestPart}
+use Rattle.network.specs.Parts.{outOfRange, takenPart, reportPart, answerPart, hitPart, partOf, recordsOf}
+use Rattle.network_theorems.specs.Kept.{Kept}
+use Rattle.network_theorems.proofs.Theorems.{tick-own, hit-own}
+use Rattle.network_theorems.proofs.Kept.{tick-kept, want-kept, hit-kept, answer-kept, report-kept}
+
+-- ---- by what a call is
+-- a bus-off
+pub by-hit : (s : State) (Q : Hit → Type 0) → (isUp (s .step) ≡ true → Q Hit.Recover) → (isUp (s .step) ≡ false → asksToStart (asksFor (s .step))
+    ≡ true → Q Hit.Restart) → (isUp (s .step) ≡ false → asksToStart (asksFor (s .step)) ≡ false → Q Hit.NotTaken) → Q (hitOf (s .step))
+unfolding hitOf
+by-hit s Q up starting neither = split Q (isUp (s .step)) up (λ u. split Q (asksToStart (asksFor (s .step))) (starting u) (neither u))
+
+module _ (s : State) (Q : Part → Type 0) where
+  -- a request for a mode that is one of three
+  by-mode : (mode : Mode) → (mayWant (s .step) mode ≡ true → Q (taken (wants s mode))) → Q (declined s Reply.NotUp) → Q (wantedPart s mode)
+  unfolding wantedPart
+  by-mode mode may not = split Q (mayWant (s .step) mode) may (λ e. not)
+
+  -- a request
+  pub by-request : (number : ℕ) → ((mode : Mode) → number ≡ modeNumber mode → mayWant (s .step) mode ≡ true → Q (taken (wants s mode)))
+      → Q (declined s Reply.NotUp) → Q (declined s Reply.OutOfRange) → Q (requestPart s number)
+  unfolding requestPart
+  by-request number may not-up out =
+      split Q (eqb number 0) (λ e. by-mode Mode.No (may Mode.No (eqb-true number 0 e)) not-up)
+      (λ _. split Q (eqb number 1) (λ e. by-mode Mode.Silent (may Mode.Silent (eqb-true number 1 e)) not-up)
+      (λ _. split Q (eqb number 2) (λ e. by-mode Mode.Full (may Mode.Full (eqb-true number 2 e)) not-up) (λ _. out)))
+
+  -- what is reported
+  pub by-report : (report : Report) (after : State) → (takesReport s report ≡ true → Q (taken after)) → (outOfRange report ≡ true →
+      Q (declined s Reply.OutOfRange)) → (takesReport s report ≡ false → Q (declined s Reply.NotTaken)) → Q (takenPart s report after)
+  unfolding takenPart
+  by-report report after takes out not = split Q (outOfRange report) out (λ _. split Q (takesReport s report) takes not)
+
+  -- an answer of a controller
+  pub by-answer : (n : Network) (c mode ok : ℕ) → (ltb 1 ok ≡ false → takesReport s (Report.Controller mode) ≡ true → Q (taken (afterAnswer n s c
+      (eqb ok 1)))) → (ltb 1 ok ≡ true → Q (declined s Reply.OutOfRange)) → (ltb 2 mode ≡ true → Q (declined s Reply.OutOfRange)) →
+      (takesReport s (Report.Controller mode) ≡ false → Q (declined s Reply.NotTaken)) → Q (answerPart n s c mode ok)
+  unfolding answerPart
+  by-answer n c mode ok takes out-ok out-mode not = split Q (ltb 1 ok) out-ok (λ e. by-report (Report.Controller mode) _ (takes e) out-mode not)
+
+-- ---- what holds of every part
+-- nothing is handed out
+abbrev None : Type 0
+None = _≡_ {A = List Record} [] []
+
+-- a refusal keeps the record and hands out nothing
+pub refused-stays : (n : Network) (s : State) (sight : Sight) →
+    isTaken (partOf n s sight .reply) ≡ false → (partOf n s sight .state ≡ s) × (recordsOf n s sight ≡ [])
+unfolding partOf recordsOf reportPart hitPart afterHit hitRecords
+refused-stays n s aTick e = absurd (true≢false e)
+refused-stays n s aBusOff e = by-hit-kind (hitOf (s .step)) e
+  where
+    by-hit-kind : (hit : Hit) → isTaken (hitPart s hit .reply) ≡ false → (hitPart s hit .state ≡ s) × (hitRecords n hit ≡ [])
+    by-hit-kind Hit.Recover e = absurd (true≢false e)
+    by-hit-kind Hit.Restart e = absurd (true≢false e)
+    by-hit-kind Hit.NotTaken e = (refl, refl)
+refused-stays n s (anAnswer c mode ok) e =
+    by-answer s (λ part. isTaken (part .reply) ≡ false → (part .state ≡ s) × None) n c mode ok
+    (λ _ _ e. absurd (true≢false e)) (λ _ _. (refl, refl)) (λ _ _. (refl, refl)) (λ _ _. (refl, refl)) e
+refused-stays n s (aRequest mode) e =
+    by-request s (λ part. isTaken (part .reply) ≡ false → (part .state ≡ s) × None) mode
+    (λ _ _ _ e. absurd (true≢false e)) (λ _. (refl, refl)) (λ _. (refl, refl)) e
+refused-stays n s (aReport report) e =
+    by-report s (λ part. isTaken (part .reply) ≡ false → (part .state ≡ s) × None) report _
+    (λ _ e. absurd (true≢false e)) (λ _ _. (refl, refl)) (λ _ _. (refl, refl)) e
+refused-stays n s nothing e = absurd (true≢false e)
+
+-- what `Kept` says of a record is kept by every call
+pub part-kept : (n : Network) (s : State) → InRange n → Kept n s → (sight : Sight) → Kept n (partOf n s sight .state)
+unfolding partOf reportPart hitPart
+part-kept n s g k aTick = tick-kept n s k
+part-kept n s g k aBusOff = hit-kept n s (hitOf (s .step)) k
+part-kept n s g k (anAnswer c mode ok) =
+    by-answer s (λ part. Kept n (part .state)) n c mode ok (λ _ e. answer-kept n s c mode (eqb ok 1) g e k) (λ _. k) (λ _. k) (λ _. k)
+part-kept n s g k (aRequest mode) = by-request s (λ part. Kept n (part .state)) mode (λ w _ e. want-kept n s w e k) k k
+part-kept n s g k (aReport report) = by-report s (λ part. Kept n (part .state)) report _ (λ e. report-kept n s report e k) (λ _. k) (λ _. k)
+part-kept n s g k nothing = k
+
+-- every record names the network's own controllers, transceiver or handle
+pub part-own : (n : Network) (s : State) (sight : Sight) → every (ownRecord n) (recordsOf n s sight) ≡ true
+unfolding recordsOf every any
+part-own n s aTick = tick-own n s
+part-own n s aBusOff = hit-own n (hitOf (s .step))
+part-own n s (anAnswer c mode ok) = refl
+part-own n s (aRequest mode) = refl
+part-own n s (aReport report) = refl
+part-own n s nothing = refl

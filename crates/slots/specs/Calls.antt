@@ -1,0 +1,239 @@
+-- The calls of the manager, and the outcome of each, complete: answer, next manager, count, polled mode, place, the records handed out, and where a
+-- buffer
+-- is lent every byte of it. The refusals stand in the order of the table of document 01: the first that applies is given.
+use Prim.Native.Nat.{ℕ, _*_}
+use mathlib.Core.Path.{_≡_}
+use mathlib.Core.List.{List, [], _∷_, _++_}
+use mathlib.Core.Bool.{cond}
+use lib.Dec.{leb, ltb}
+use lib.ListN.{length, drop, replicate}
+use Rattle.records.specs.declared.Mode.{Mode}
+use Rattle.records.specs.declared.Record.{Record}
+use Rattle.records.specs.Records.{modeNumber, bytes}
+use Rattle.settings.specs.declared.Settings.{Settings}
+use Rattle.settings.specs.declared.Id.{Id}
+use Rattle.settings.specs.declared.Holder.{Holder}
+use Rattle.settings.specs.Settings.{mostNetworks, blankNetwork, holderOf}
+use Rattle.sheet.specs.declared.Verdict.{Verdict}
+use Rattle.sheet.specs.declared.Reading.{Reading}
+use Rattle.sheet.specs.declared.Written.{Written}
+use Rattle.sheet.specs.Reading.{decode}
+use Rattle.sheet.specs.Encode.{encode}
+use Rattle.sheet.specs.Writing.{bufferAfter}
+use Rattle.network.specs.declared.Part.{Part}
+use Rattle.network.specs.declared.Reply.{Reply}
+use Rattle.network.specs.declared.Report.{Report}
+use Rattle.network.specs.declared.State.{State}
+use Rattle.network.specs.State.{started}
+use Rattle.network.specs.Moving.{tickState}
+use Rattle.network.specs.Parts.{Sight, aBusOff, anAnswer, aRequest, aReport, isTaken, partOf, recordsOf}
+use Rattle.slots.specs.declared.Stage.{Stage}
+use Rattle.slots.specs.declared.Answer.{Answer}
+use Rattle.slots.specs.declared.Gate.{Gate}
+use Rattle.slots.specs.declared.Slot.{Slot}
+use Rattle.slots.specs.declared.Manager.{Manager}
+use Rattle.slots.specs.declared.Outcome.{Outcome}
+use Rattle.slots.specs.Manager.{networksOf, settingsOf, blankStates, networkAt, stateAt, withState, withStates, refused, accepted, each}
+use Rattle.slots.specs.Manager.{allRecords, tickNeeds}
+
+-- a call with its arguments; of a lent buffer the number of bytes
+pub data Call : Type 0 where
+  read : (bytes : List ℕ) → Call
+  write : (room : ℕ) → Call
+  start : Call
+  request : (handle mode : ℕ) → Call
+  poll : (handle : ℕ) → Call
+  busOff : (controller room : ℕ) → Call
+  answer : (controller mode ok : ℕ) → Call
+  transceiverMode : (transceiver mode : ℕ) → Call
+  clearDone : (transceiver : ℕ) → Call
+  checkDone : (transceiver : ℕ) → Call
+  tick : (room : ℕ) → Call
+
+-- ---- the sheet and the start
+
+-- a manager before any call: no sheet, every slot blank
+abbrev pub newManager : Manager
+newManager = record { stage = Stage.Empty; count = 0; networks = replicate mostNetworks blankNetwork; states = blankStates }
+
+-- one of three, by the stage
+abbrev pub byStage : {A : Type 0} → Stage → A → A → A → A
+byStage Stage.Empty a b c = a
+byStage Stage.Loaded a b c = b
+byStage Stage.Started a b c = c
+
+-- a manager with the settings of a sheet that was read
+abbrev pub loaded : Settings → Manager
+loaded s = record { stage = Stage.Loaded; count = s .count; networks = s .networks; states = blankStates }
+
+-- "An accepted read gives the number of networks and, as place, the sheet's length"; "a refused reading keeps the old one"
+abbrev pub afterReading : Manager → Reading → Verdict → Outcome
+afterReading m r Verdict.Accepted =
+    record { answer = Answer.Accepted; manager = loaded (r .settings); count = r .settings .count; mode = 0; place = r .place }
+afterReading m r (Verdict.Refused fault) = record { answer = Answer.Sheet fault; manager = m; count = 0; mode = 0; place = r .place }
+
+-- what reading these bytes gives, before the start
+unfoldable pub readInto : Manager → List ℕ → Outcome
+readInto m bytes = afterReading m (decode bytes) (decode bytes .answer)
+
+-- the writer's own answer
+abbrev pub afterWriting : Manager → Written → Outcome
+afterWriting m Written.Short = refused m Answer.TooShort
+afterWriting m (Written.Length n) = accepted m n
+
+-- "The writer writes from the front too and returns its sheet's length."; a buffer that is too short gives 20
+unfoldable pub writingOf : Manager → ℕ → Outcome
+writingOf m room =
+    cond (leb (length (encode (settingsOf m))) room) (accepted m (length (encode (settingsOf m)))) (refused m Answer.TooShort)
+
+-- "Start puts each network in its first down step .., and hands out nothing"
+abbrev pub startedFrom : Manager → Manager
+startedFrom m = withStates m Stage.Started (each (λ n s. started n) (networksOf m) (m .states))
+
+-- ---- a call that names an id
+
+-- 03, 04, 05: nobody has this handle, controller, transceiver
+abbrev pub unknown : Id → Answer
+unknown (Id.OfNetwork handle) = Answer.NoHandle
+unknown (Id.OfController controller) = Answer.NoController
+unknown (Id.OfTransceiver transceiver) = Answer.NoTransceiver
+
+-- the slot of the network that has the id, or the refusal where there is none
+abbrev pub slotAt : Id → Holder → Slot
+slotAt id (Holder.At i) = Slot.At i
+slotAt id Holder.Nobody = Slot.Refused (unknown id)
+
+-- before the start no id is looked up: "the call needs a started manager"
+unfoldable pub slotOf : Manager → Id → Slot
+slotOf m id = byStage (m .stage) (Slot.Refused Answer.NotReady) (Slot.Refused Answer.NotReady) (slotAt id (holderOf id (networksOf m)))
+
+-- the refusal, or what the slot gives
+abbrev pub bySlot : Manager → Slot → (ℕ → Outcome) → Outcome
+bySlot m (Slot.Refused refusal) found = refused m refusal
+bySlot m (Slot.At i) found = found i
+
+-- the manager's answer for a network's reply
+abbrev pub answerOf : Reply → Answer
+answerOf Reply.Taken = Answer.Accepted
+answerOf Reply.OutOfRange = Answer.OutOfRange
+answerOf Reply.NotUp = Answer.NotUp
+answerOf Reply.NotTaken = Answer.NotTaken
+
+-- a network's part lifted to its slot: what is taken stores its record, and a refusal changes nothing
+unfoldable pub settled : Manager → ℕ → Reply → State → ℕ → Outcome
+settled m i reply s count = cond (isTaken reply) (accepted (withState m i s) count) (refused m (answerOf reply))
+
+-- what slot i makes of a call
+unfoldable pub slotOutcome : Manager → ℕ → Sight → Outcome
+slotOutcome m i sight =
+    let part = partOf (networkAt m i) (stateAt m i) sight in
+    settled m i (part .reply) (part .state) (length (recordsOf (networkAt m i) (stateAt m i) sight))
+
+-- 01, then the refusal for an unknown id, then what the network makes of it
+unfoldable pub named : Manager → Id → Sight → Outcome
+named m id sight = bySlot m (slotOf m id) (λ i. slotOutcome m i sight)
+
+-- the records that the slot hands out
+abbrev pub slotRecords : Manager → Slot → Sight → List Record
+slotRecords m (Slot.Refused refusal) sight = []
+slotRecords m (Slot.At i) sight = recordsOf (networkAt m i) (stateAt m i) sight
+
+-- "the mode last told by kind 6 (what polling gives)", as its number; the manager stays
+abbrev pub polled : Manager → Mode → Outcome
+polled m told = record { answer = Answer.Accepted; manager = m; count = 0; mode = modeNumber told; place = 0 }
+
+-- ---- a call that is lent a buffer for records
+
+-- whether it may go on: 01, then 20 with less room than it needs
+unfoldable pub gateOf : Manager → ℕ → ℕ → Gate
+gateOf m room needs =
+    byStage (m .stage) (Gate.Refused Answer.NotReady) (Gate.Refused Answer.NotReady) (cond (ltb room needs) (Gate.Refused Answer.TooShort) Gate.Open)
+
+-- the refusal, or what it gives
+abbrev pub byGate : Manager → Gate → Outcome → Outcome
+byGate m (Gate.Refused refusal) o = refused m refusal
+byGate m Gate.Open o = o
+
+-- the records, where it goes on
+abbrev pub gateRecords : Gate → List Record → List Record
+gateRecords (Gate.Refused refusal) rs = []
+gateRecords Gate.Open rs = rs
+
+-- "a bus-off [needs] 9" bytes
+abbrev pub busOffNeeds : ℕ
+busOffNeeds = 9
+
+-- every network in use has ticked, in sheet order
+unfoldable pub allTicked : Manager → Outcome
+allTicked m =
+    accepted (withStates m Stage.Started (each tickState (networksOf m) (m .states))) (length (allRecords (networksOf m) (m .states)))
+
+-- ---- every call
+
+-- what a call gives
+unfoldable pub outcome : Manager → Call → Outcome
+-- 0B on a started manager: the bytes are not looked at, the place is 0
+outcome m (read bytes) = byStage (m .stage) (readInto m bytes) (readInto m bytes) (refused m Answer.Running)
+-- 01 without a sheet; it works before and after the start
+outcome m (write room) = byStage (m .stage) (refused m Answer.NotReady) (writingOf m room) (writingOf m room)
+-- 01 without a sheet, 0B on a started manager
+outcome m start = byStage (m .stage) (refused m Answer.NotReady) (accepted (startedFrom m) 0) (refused m Answer.Running)
+-- 01, 03, 21, 08
+outcome m (request handle mode) = named m (Id.OfNetwork handle) (aRequest mode)
+-- 01, 03
+outcome m (poll handle) = bySlot m (slotOf m (Id.OfNetwork handle)) (λ i. polled m (stateAt m i .told))
+-- 01, 20 (9 bytes always), 04, 22
+outcome m (busOff controller room) = byGate m (gateOf m room busOffNeeds) (named m (Id.OfController controller) aBusOff)
+-- 01, 04, 21 (a mode above 2 or an ok value above 1), 22
+outcome m (answer controller mode ok) = named m (Id.OfController controller) (anAnswer controller mode ok)
+-- 01, 05, 21 (above 2), 22: 2 is in range, but no step asks for it
+outcome m (transceiverMode transceiver mode) = named m (Id.OfTransceiver transceiver) (aReport (Report.Transceiver mode))
+-- 01, 05, 22
+outcome m (clearDone transceiver) = named m (Id.OfTransceiver transceiver) (aReport Report.Cleared)
+outcome m (checkDone transceiver) = named m (Id.OfTransceiver transceiver) (aReport Report.Checked)
+-- 01, 20
+outcome m (tick room) = byGate m (gateOf m room (tickNeeds m)) (allTicked m)
+
+-- the records that a call hands out
+unfoldable pub handedOut : Manager → Call → List Record
+handedOut m (read bytes) = []
+handedOut m (write room) = []
+handedOut m start = []
+handedOut m (request handle mode) = []
+handedOut m (poll handle) = []
+handedOut m (busOff controller room) = gateRecords (gateOf m room busOffNeeds) (slotRecords m (slotOf m (Id.OfController controller)) aBusOff)
+handedOut m (answer controller mode ok) = []
+handedOut m (transceiverMode transceiver mode) = []
+handedOut m (clearDone transceiver) = []
+handedOut m (checkDone transceiver) = []
+handedOut m (tick room) = gateRecords (gateOf m room (tickNeeds m)) (allRecords (networksOf m) (m .states))
+
+-- ---- lent buffers
+
+-- a buffer with records from its front; "later bytes stay"
+unfoldable pub bufferWith : List ℕ → List Record → List ℕ
+bufferWith b rs = bytes rs ++ drop (3 * length rs) b
+
+-- a buffer after writing the sheet; without a sheet every byte stays
+unfoldable pub writtenInto : Manager → List ℕ → List ℕ
+writtenInto m b = byStage (m .stage) b (bufferAfter (settingsOf m) b) (bufferAfter (settingsOf m) b)
+
+-- what a call gives that is lent the buffer b and leaves it as `after`: its outcome, and the records that it hands out from the buffer's front
+pub record Gives (m : Manager) (c : Call) (b : List ℕ) (r : Outcome) (after : List ℕ) : Type 0 where
+  pub result : r ≡ outcome m c
+  pub buffer : after ≡ bufferWith b (handedOut m c)
+
+-- what a slot gives that a bus-off names
+pub record SlotGives (m : Manager) (slot : Slot) (sight : Sight) (b : List ℕ) (r : Outcome) (after : List ℕ) : Type 0 where
+  pub result : r ≡ bySlot m slot (λ i. slotOutcome m i sight)
+  pub buffer : after ≡ bufferWith b (slotRecords m slot sight)
+
+-- the same of the writer, which hands out no records but its sheet
+pub record Writes (m : Manager) (b : List ℕ) (r : Outcome) (after : List ℕ) : Type 0 where
+  pub result : r ≡ outcome m (write (length b))
+  pub buffer : after ≡ writtenInto m b
+
+-- the manager after a list of calls, the first call first
+unfoldable pub run : Manager → List Call → Manager
+run m [] = m
+run m (c ∷ cs) = run (outcome m c .manager) cs

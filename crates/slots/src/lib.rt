@@ -1,0 +1,182 @@
+// The manager's data: its networks and their records, in eight slots; answers and outcomes; which slot an id names, the room that a call needs, and a
+// network's part lifted to its slot.
+mod finding;
+mod room;
+mod settling;
+
+ghost use mathlib.Core.Path.{_≡_};
+ghost use Rattle.slots.specs.Manager.{answerNumber, blankState, refused, accepted, networkAt, stateAt, withState};
+use entries::Fault;
+pub use finding::slot_of;
+use network::State;
+use records::Mode;
+pub use room::gate_of;
+pub use room::tick_needs;
+use settings::Network;
+use settings::Settings;
+pub use settling::settle;
+use steps::Step;
+
+// Whether the manager has a sheet, and whether it was started.
+pub enum Stage {
+    Empty,
+    Loaded,
+    Started,
+}
+
+// The networks of the sheet, in its order, and the record of each; unused slots are blank.
+pub struct Manager {
+    pub stage: Stage,
+    pub count: u8,
+    pub networks: [Network; Settings::MOST_NETWORKS],
+    pub states: [State; Settings::MOST_NETWORKS],
+}
+
+// The slot of the network that an id names, or the refusal where there is none: 01, 03, 04 or 05.
+pub enum Slot {
+    Refused(Answer),
+    At(usize),
+}
+
+// Whether a call that is lent a buffer for records may go on, or its refusal: 01 or 20.
+pub enum Gate {
+    Refused(Answer),
+    Open,
+}
+
+// What a call answers.
+pub enum Answer {
+    Accepted,
+    // 01: it needs a started manager, or a sheet.
+    NotReady,
+    // 0B: the manager was started.
+    Running,
+    // 20: the lent buffer is too short.
+    TooShort,
+    // 03, 04, 05: nobody has this handle, controller, transceiver.
+    NoHandle,
+    NoController,
+    NoTransceiver,
+    // 21: a mode or ok value out of its range.
+    OutOfRange,
+    // 08: silent asked for in a step other than 4 to 8.
+    NotUp,
+    // 22: an answer or bus-off that the step does not take.
+    NotTaken,
+    // 30 to 38: the sheet.
+    Sheet(Fault),
+}
+
+impl Answer {
+    // The number of this answer.
+    pub fn number(self) -> u8
+        ensures { λ r. ⌜ r ≡ answerNumber self ⌝ }
+    {
+        match self {
+            Answer::Accepted => 0x00,
+            Answer::NotReady => 0x01,
+            Answer::Running => 0x0B,
+            Answer::TooShort => 0x20,
+            Answer::NoHandle => 0x03,
+            Answer::NoController => 0x04,
+            Answer::NoTransceiver => 0x05,
+            Answer::OutOfRange => 0x21,
+            Answer::NotUp => 0x08,
+            Answer::NotTaken => 0x22,
+            Answer::Sheet(fault) => fault.number(),
+        }
+    }
+}
+
+// What a call gives: its answer, the next manager, a count (of records, of networks, of bytes written), the polled mode, the place.
+pub struct Outcome {
+    pub answer: Answer,
+    pub manager: Manager,
+    pub count: usize,
+    pub mode: u8,
+    pub place: usize,
+}
+
+impl Outcome {
+    // The manager stays as it was. Beside a refusal every count and a polled mode are 0.
+    pub fn refuse(manager: Manager, answer: Answer) -> Outcome
+        ensures { λ r. ⌜ r ≡ refused manager answer ⌝ }
+    {
+        Outcome {
+            answer,
+            manager,
+            count: 0,
+            mode: 0,
+            place: 0,
+        }
+    }
+
+    // Accepted, with nothing to count.
+    pub fn accept(manager: Manager) -> Outcome
+        ensures { λ r. ⌜ r ≡ accepted manager 0 ⌝ }
+    {
+        Outcome {
+            answer: Answer::Accepted,
+            manager,
+            count: 0,
+            mode: 0,
+            place: 0,
+        }
+    }
+}
+
+impl Manager {
+    // The bytes that a bus-off needs: three records.
+    pub const BUS_OFF_NEEDS: usize = 9;
+    // The most records of a tick that name a network's handle and no controller.
+    pub const NOTICES: usize = 2;
+
+    // The network of a slot; past the slots it is blank.
+    pub fn network_at(self, at: usize) -> Network
+        ensures { λ r. ⌜ r ≡ networkAt self at ⌝ }
+    {
+        let networks = self.networks;
+        if at < Settings::MOST_NETWORKS {
+            return networks[at];
+        }
+        Network::blank()
+    }
+
+    // The record of a slot; past the slots it is blank.
+    pub fn state_at(self, at: usize) -> State
+        ensures { λ r. ⌜ r ≡ stateAt self at ⌝ }
+    {
+        let states = self.states;
+        if at < Settings::MOST_NETWORKS {
+            return states[at];
+        }
+        blank_state()
+    }
+
+    // The manager with the record of one network new.
+    pub fn with_state(self, at: usize, state: State) -> Manager
+        ensures { λ r. ⌜ r ≡ withState self at state ⌝ }
+    {
+        let mut next = self;
+        if at < Settings::MOST_NETWORKS {
+            next.states[at] = state;
+        }
+        next
+    }
+}
+
+// A record that is not in use.
+pub fn blank_state() -> State
+    ensures { λ r. ⌜ r ≡ blankState ⌝ }
+{
+    let answers = State::no_answers();
+    State {
+        step: Step::NoCommunication,
+        wanted: Mode::No,
+        told: Mode::No,
+        count: 0,
+        asked: false,
+        answers,
+        reported: false,
+    }
+}

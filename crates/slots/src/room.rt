@@ -1,0 +1,59 @@
+// The room that a call needs for its records.
+use crate::Answer;
+use crate::Gate;
+use crate::Manager;
+use crate::Stage;
+use records::Record;
+use settings::Network;
+use settings::Settings;
+ghost use mathlib.Core.Path.{_≡_};
+ghost use Prim.Native.Nat.{_≤_};
+ghost use Rattle.slots.specs.Manager.{share, tickNeeds};
+ghost use Rattle.slots.specs.Calls.{gateOf};
+
+// How many records a network may hand out on a tick.
+fn share_of(network: Network) -> usize
+    ensures { λ r. ⌜ (r ≡ share network) × (r ≤ 6) ⌝ }
+{
+    let count = network.count as usize;
+    if count < 1 {
+        return 1 + Manager::NOTICES;
+    }
+    if count < Network::MOST_CONTROLLERS {
+        return count + Manager::NOTICES;
+    }
+    Network::MOST_CONTROLLERS + Manager::NOTICES
+}
+
+// The bytes that a tick needs.
+pub fn tick_needs(manager: Manager) -> usize
+    ensures { λ r. ⌜ r ≡ tickNeeds manager ⌝ }
+{
+    let networks = manager.networks;
+    let used = Settings::in_use(manager.count);
+    let mut total: usize = 0;
+    let mut i: u8 = 0;
+    while i < used {
+        let network = networks[i as usize];
+        total += share_of(network);
+        i += 1;
+    }
+    Record::SIZE * total
+}
+
+// A call that hands out records: the manager is started, and the lent buffer has the room.
+pub fn gate_of(manager: Manager, room: usize, needs: usize) -> Gate
+    ensures { λ r. ⌜ r ≡ gateOf manager room needs ⌝ }
+{
+    let stage = manager.stage;
+    match stage {
+        Stage::Empty => Gate::Refused(Answer::NotReady),
+        Stage::Loaded => Gate::Refused(Answer::NotReady),
+        Stage::Started => {
+            if room < needs {
+                return Gate::Refused(Answer::TooShort);
+            }
+            Gate::Open
+        }
+    }
+}

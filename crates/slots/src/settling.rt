@@ -1,0 +1,28 @@
+// A network's part in a call, lifted to its slot.
+use crate::Answer;
+use crate::Manager;
+use crate::Outcome;
+use network::Part;
+use network::Reply;
+ghost use mathlib.Core.Path.{_≡_};
+ghost use Rattle.slots.specs.Calls.{settled};
+
+// What is taken stores its record, beside the number of records handed out; a refusal changes nothing.
+pub fn settle(manager: Manager, at: usize, part: Part, count: usize) -> Outcome
+    ensures { λ r. ⌜ r ≡ settled manager at (part .reply) (part .state) count ⌝ }
+{
+    let reply = part.reply;
+    let state = part.state;
+    match reply {
+        Reply::Taken => Outcome {
+            answer: Answer::Accepted,
+            manager: manager.with_state(at, state),
+            count,
+            mode: 0,
+            place: 0,
+        },
+        Reply::OutOfRange => Outcome::refuse(manager, Answer::OutOfRange),
+        Reply::NotUp => Outcome::refuse(manager, Answer::NotUp),
+        Reply::NotTaken => Outcome::refuse(manager, Answer::NotTaken),
+    }
+}

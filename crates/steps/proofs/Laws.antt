@@ -1,0 +1,63 @@
+-- Laws by cases of the step, for the crates above: each says once what a new step has to answer.
+use mathlib.Core.Path.{_≡_, refl}
+use mathlib.Core.Bool.{Bool, false, true≢false}
+use Rattle.records.specs.declared.Mode.{Mode}
+use Rattle.steps.specs.declared.Step.{Step}
+use Rattle.steps.specs.declared.Step.the-variants.{NoCommunication, TransceiverNormal, ControllersStopped, ControllersStarted}
+use Rattle.steps.specs.declared.Step.the-variants.{Checking, Full, Restarting, Waiting, Silent}
+use Rattle.steps.specs.declared.Step.the-variants.{ClearWake, DownStopped, TransceiverStandby, ControllersSleep, CheckWake, CheckWakeAgain}
+use Rattle.steps.specs.declared.Phase.{Phase}
+use Rattle.steps.specs.declared.Ask.{Ask}
+use Rattle.steps.specs.declared.Outfit.{Outfit}
+use Rattle.steps.specs.Steps.{phaseOf, asksFor, asksToSleep}
+use Rattle.steps.specs.Decision.{decision}
+
+-- ---- phaseOf
+-- what a phase says of its steps: the phases off, full and silent have one step, and a step that is checked asks for nothing
+abbrev pub InPhase : Phase → Step → Type 0
+InPhase Phase.Off step = step ≡ NoCommunication
+InPhase Phase.Rising step = Unit
+InPhase Phase.Checking step = asksFor step ≡ Ask.Nothing
+InPhase Phase.Full step = step ≡ Full
+InPhase Phase.Recovering step = Unit
+InPhase Phase.Silent step = step ≡ Silent
+InPhase Phase.Falling step = Unit
+
+pub in-phase : (step : Step) → InPhase (phaseOf step) step
+in-phase NoCommunication = refl
+in-phase TransceiverNormal = tt
+in-phase ControllersStopped = tt
+in-phase ControllersStarted = tt
+in-phase (Checking t) = refl
+in-phase Full = refl
+in-phase Restarting = tt
+in-phase (Waiting t) = tt
+in-phase Silent = refl
+in-phase ClearWake = tt
+in-phase DownStopped = tt
+in-phase TransceiverStandby = tt
+in-phase ControllersSleep = tt
+in-phase CheckWake = tt
+in-phase CheckWakeAgain = tt
+
+-- ---- decision
+module _ (wanted : Mode) (done refused reached : Bool) (outfit : Outfit) where
+  -- only in the step that asks the controllers to sleep does a refusal decide
+  pub only-sleep : (step : Step) → asksToSleep (asksFor step) ≡ false
+      → decision step wanted done false reached outfit ≡ decision step wanted done refused reached outfit
+  unfolding decision
+  only-sleep NoCommunication e = refl
+  only-sleep TransceiverNormal e = refl
+  only-sleep ControllersStopped e = refl
+  only-sleep ControllersStarted e = refl
+  only-sleep (Checking t) e = refl
+  only-sleep Full e = refl
+  only-sleep Restarting e = refl
+  only-sleep (Waiting t) e = refl
+  only-sleep Silent e = refl
+  only-sleep ClearWake e = refl
+  only-sleep DownStopped e = refl
+  only-sleep TransceiverStandby e = refl
+  only-sleep ControllersSleep e = absurd (true≢false e)
+  only-sleep CheckWake e = refl
+  only-sleep CheckWakeAgain e = refl
