@@ -1,16 +1,20 @@
-/* The rules of document 01 in C, written by hand for speed: tables by step, answers as bits, networks found by an index of their ids. */
+/* The rules of docs/RULES.md in C, written by hand for speed: tables by step, answers as bits, networks found by an index of their ids. */
 #include "manager.h"
 #include <string.h>
 
+/* N1: the fifteen steps. */
 enum {
     NO_COMMUNICATION, TRANSCEIVER_NORMAL, CONTROLLERS_STOPPED, CONTROLLERS_STARTED, CHECKING, FULL_STEP, RESTARTING, WAITING, SILENT_STEP,
     CLEAR_WAKE, DOWN_STOPPED, TRANSCEIVER_STANDBY, CONTROLLERS_SLEEP, CHECK_WAKE, CHECK_WAKE_AGAIN
 };
 enum { NO, SILENT, FULL };
 enum { ASK_NOTHING, ASK_CONTROLLERS, ASK_TRANSCEIVER, ASK_CLEAR, ASK_CHECK };
+/* H5 to H12: the kinds of records. */
 enum { CONTROLLER = 1, TRANSCEIVER, PDU, CLEAR, CHECK, TELL, NOTE, REPORT };
+/* R7, R9 to R15: the refusals of these calls. */
 enum { NOT_READY = 1, NO_HANDLE = 3, NO_CONTROLLER, NO_TRANSCEIVER, NOT_UP = 8, TOO_SHORT = 0x20, OUT_OF_RANGE, NOT_TAKEN };
 
+/* N1, N10: what each step asks for. */
 static const uint8_t ASKS[] = {
     ASK_NOTHING, ASK_TRANSCEIVER, ASK_CONTROLLERS, ASK_CONTROLLERS, ASK_NOTHING, ASK_NOTHING, ASK_CONTROLLERS, ASK_NOTHING, ASK_NOTHING,
     ASK_CLEAR, ASK_CONTROLLERS, ASK_TRANSCEIVER, ASK_CONTROLLERS, ASK_CHECK, ASK_CHECK
@@ -23,6 +27,7 @@ struct records {
     size_t count;
 };
 
+/* H1, H2: a record is written behind the last one. */
 static inline void put(struct records *to, uint8_t kind, uint8_t target, uint8_t argument) {
     uint8_t *at = to->out + RECORD * to->count++;
     at[0] = kind;
@@ -49,8 +54,10 @@ static inline void move(struct network *network, uint8_t step) {
     forget(network);
 }
 
+/* N4: up are steps 4 to 8. */
 static inline int is_up(uint8_t step) { return step >= CHECKING && step <= SILENT_STEP; }
 
+/* N13: a step is done that has asked, and what it asked for is there. */
 static inline int is_done(const struct network *network) {
     if (!network->asked) return 0;
     switch (ASKS[network->step]) {
@@ -60,6 +67,7 @@ static inline int is_done(const struct network *network) {
     }
 }
 
+/* N11, N12: the requests of the step, to each controller where they are about controllers. */
 static void ask(struct records *to, struct network *network) {
     uint8_t mode = MODES[network->step];
     switch (ASKS[network->step]) {
@@ -72,11 +80,13 @@ static void ask(struct records *to, struct network *network) {
     network->asked = 1;
 }
 
+/* N11: the answers are forgotten, and the step that is entered asks. */
 static void enter(struct records *to, struct network *network, uint8_t step) {
     move(network, step);
     ask(to, network);
 }
 
+/* T23: step 4 with 0 ticks. */
 static void enter_full(struct records *to, struct network *network) {
     put_each(to, network, PDU, 0);
     tell(to, network, FULL);
@@ -84,6 +94,7 @@ static void enter_full(struct records *to, struct network *network) {
     move(network, CHECKING);
 }
 
+/* T24: step 8. */
 static void enter_silent(struct records *to, struct network *network) {
     put_each(to, network, PDU, 1);
     tell(to, network, SILENT);
@@ -91,17 +102,20 @@ static void enter_silent(struct records *to, struct network *network) {
     move(network, SILENT_STEP);
 }
 
+/* T28: step 0. */
 static void enter_no(struct records *to, struct network *network) {
     tell(to, network, NO);
     move(network, NO_COMMUNICATION);
 }
 
+/* T25: the first down step, with its requests behind the notices. */
 static void go_down(struct records *to, struct network *network) {
     put(to, NOTE, network->handle, 0);
     if (network->told == FULL) tell(to, network, SILENT);
     enter(to, network, network->partial ? CLEAR_WAKE : DOWN_STOPPED);
 }
 
+/* N12: not done, it asks again. */
 static void go_on(struct records *to, struct network *network, uint8_t step) {
     if (is_done(network)) enter(to, network, step);
     else ask(to, network);
@@ -112,26 +126,32 @@ static void end_down(struct records *to, struct network *network) {
     else ask(to, network);
 }
 
+/* T13: the long delay where the count is above the threshold, else the short one. */
 static inline uint16_t delay(const struct network *network) {
     return network->bus_offs > network->threshold ? network->long_delay : network->short_delay;
 }
 
+/* T1: one network's move. */
 static void tick_network(struct records *to, struct network *network) {
     uint8_t step = network->step;
+    /* T3: no is looked at first. */
     if (network->wanted == NO && step >= TRANSCEIVER_NORMAL && step <= SILENT_STEP) {
         go_down(to, network);
         return;
     }
     switch (step) {
+    /* T4: full is wanted. */
     case NO_COMMUNICATION:
         if (network->wanted == FULL) enter(to, network, network->has_transceiver ? TRANSCEIVER_NORMAL : CONTROLLERS_STOPPED);
         break;
+    /* T5 to T7: coming up. */
     case TRANSCEIVER_NORMAL: go_on(to, network, CONTROLLERS_STOPPED); break;
     case CONTROLLERS_STOPPED: go_on(to, network, CONTROLLERS_STARTED); break;
     case CONTROLLERS_STARTED:
         if (is_done(network)) enter_full(to, network);
         else ask(to, network);
         break;
+    /* T8 to T10: silent is wanted, or the ensure time is reached. */
     case CHECKING:
         if (network->wanted == SILENT) {
             enter_silent(to, network);
@@ -141,9 +161,11 @@ static void tick_network(struct records *to, struct network *network) {
             move(network, FULL_STEP);
         }
         break;
+    /* T8: silent is wanted. */
     case FULL_STEP:
         if (network->wanted == SILENT) enter_silent(to, network);
         break;
+    /* T11: all controllers run. */
     case RESTARTING:
         if (is_done(network)) {
             put_each(to, network, PDU, 1);
@@ -152,15 +174,18 @@ static void tick_network(struct records *to, struct network *network) {
             ask(to, network);
         }
         break;
+    /* T12, T13: the delay is reached. */
     case WAITING:
         if (++network->ticks >= delay(network)) {
             if (network->wanted == FULL) enter_full(to, network);
             else enter_silent(to, network);
         }
         break;
+    /* T14: full is wanted. */
     case SILENT_STEP:
         if (network->wanted == FULL) enter_full(to, network);
         break;
+    /* T15 to T22: going down. */
     case CLEAR_WAKE: go_on(to, network, DOWN_STOPPED); break;
     case DOWN_STOPPED: go_on(to, network, network->partial ? TRANSCEIVER_STANDBY : CONTROLLERS_SLEEP); break;
     case TRANSCEIVER_STANDBY:
@@ -182,6 +207,7 @@ static void tick_network(struct records *to, struct network *network) {
     }
 }
 
+/* R7, R9, R16, T1: the networks in the order of the sheet. */
 struct outcome manager_tick(struct manager *manager, uint8_t *out, size_t room) {
     if (!manager->started) return (struct outcome){ NOT_READY, 0 };
     if (room < manager->tick_room) return (struct outcome){ TOO_SHORT, 0 };
@@ -190,6 +216,7 @@ struct outcome manager_tick(struct manager *manager, uint8_t *out, size_t room) 
     return (struct outcome){ 0, to.count };
 }
 
+/* R7, R9, R11, R17, B1 to B6: a bus-off of a controller. */
 struct outcome manager_bus_off(struct manager *manager, uint8_t id, uint8_t *out, size_t room) {
     if (!manager->started) return (struct outcome){ NOT_READY, 0 };
     if (room < BUS_OFF_ROOM) return (struct outcome){ TOO_SHORT, 0 };
@@ -211,6 +238,7 @@ struct outcome manager_bus_off(struct manager *manager, uint8_t id, uint8_t *out
     return (struct outcome){ 0, to.count };
 }
 
+/* R7, R11, R13, A1, A2, A6: the last answer of the controller is kept. */
 uint8_t manager_controller_answer(struct manager *manager, uint8_t id, uint8_t mode, uint8_t okay) {
     if (!manager->started) return NOT_READY;
     unsigned found = manager->by_controller[id];
@@ -224,6 +252,7 @@ uint8_t manager_controller_answer(struct manager *manager, uint8_t id, uint8_t m
     return 0;
 }
 
+/* A3 to A6: a report is taken where the step asks for it and has asked. */
 static uint8_t report(struct manager *manager, unsigned found, uint8_t asked, uint8_t mode) {
     struct network *network = &manager->network[found - 1];
     if (!network->asked || ASKS[network->step] != asked || MODES[network->step] != mode) return NOT_TAKEN;
@@ -231,6 +260,7 @@ static uint8_t report(struct manager *manager, unsigned found, uint8_t asked, ui
     return 0;
 }
 
+/* R7, R12, R13, A3: the transceiver's mode. */
 uint8_t manager_transceiver_mode(struct manager *manager, uint8_t id, uint8_t mode) {
     if (!manager->started) return NOT_READY;
     unsigned found = manager->by_transceiver[id];
@@ -239,18 +269,21 @@ uint8_t manager_transceiver_mode(struct manager *manager, uint8_t id, uint8_t mo
     return report(manager, found, ASK_TRANSCEIVER, mode);
 }
 
+/* R7, R12, A4: the flag was cleared. */
 uint8_t manager_clear_done(struct manager *manager, uint8_t id) {
     if (!manager->started) return NOT_READY;
     unsigned found = manager->by_transceiver[id];
     return found ? report(manager, found, ASK_CLEAR, 0) : NO_TRANSCEIVER;
 }
 
+/* R7, R12, A5: the flag was checked. */
 uint8_t manager_check_done(struct manager *manager, uint8_t id) {
     if (!manager->started) return NOT_READY;
     unsigned found = manager->by_transceiver[id];
     return found ? report(manager, found, ASK_CHECK, 0) : NO_TRANSCEIVER;
 }
 
+/* R7, R10, R13, R14, N14: the wanted mode is stored. */
 uint8_t manager_request(struct manager *manager, uint8_t handle, uint8_t mode) {
     if (!manager->started) return NOT_READY;
     unsigned found = manager->by_handle[handle];
@@ -264,7 +297,7 @@ uint8_t manager_request(struct manager *manager, uint8_t handle, uint8_t mode) {
 
 static uint16_t number(const uint8_t *at) { return (uint16_t)(at[0] << 8 | at[1]); }
 
-/* One field of the sheet: its tag and its value. */
+/* S4 to S9: one field of the sheet, its tag and its value. */
 static void take_field(struct manager *manager, struct network *network, uint8_t tag, const uint8_t *value) {
     unsigned place = (unsigned)(network - manager->network);
     switch (tag) {
@@ -291,6 +324,7 @@ static void take_field(struct manager *manager, struct network *network, uint8_t
     }
 }
 
+/* R16, N7, N8: every network in its first down step, and the room of a tick. */
 void manager_start(struct manager *manager, const uint8_t *sheet, size_t length) {
     memset(manager, 0, sizeof *manager);
     for (size_t at = 0; at + 3 <= length; at += 3u + number(sheet + at + 1)) {

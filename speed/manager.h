@@ -10,7 +10,7 @@ struct network {
     /* the settings */
     uint8_t handle, controllers, controller[MOST_CONTROLLERS], transceiver, has_transceiver, threshold, partial;
     uint16_t short_delay, long_delay, ensure;
-    /* the record: a bit for each controller that answered ok, and for each that refused */
+    /* N3: the record, with a bit for each controller that answered ok, and for each that refused */
     uint8_t step, wanted, told, bus_offs, asked, okay, refused, reported;
     uint16_t ticks;
 };
@@ -23,7 +23,7 @@ struct manager {
     uint8_t by_handle[IDS], by_controller[IDS], by_transceiver[IDS];
 };
 
-/* What a call gives: its answer (0: accepted), and the number of records handed out. */
+/* R1, H2: what a call gives, its answer (0: accepted) and the number of records handed out. */
 struct outcome {
     uint8_t answer;
     size_t count;

@@ -5,7 +5,7 @@
 #include <stdint.h>
 
 enum { ROOM = 144, SHEET_ROOM = 328 };
-/* How the box around the manager answers: crates/speed/src/lib.rt says it. */
+/* How the box around the manager answers: crates/workload/src/lib.rt says it. */
 enum { CALM = 0, DEAF = 1, RESTLESS = 2 };
 
 /* Work on a manager with this sheet, for so many rounds. The setting is the box's style, or for answers the number of controllers. */

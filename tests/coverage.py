@@ -1,4 +1,4 @@
-"""What recorded inputs reach of document 01, held against what the program can reach at all.
+"""What recorded inputs reach of the rules, held against what the program can reach at all.
 
 A run of the model is watched on its way; the model stays as it is. What can be reached is worked out from the model's own
 rules, from the start of a network on, so a list of cases can be held against it:
@@ -86,7 +86,7 @@ POSSIBLE_ANSWERS = {
     EventTag.POLL: (model.ACCEPTED, Refusal.UNKNOWN_HANDLE),
 }
 
-# The refusal numbers of document 01 that the program cannot give, and why.
+# The refusal numbers of the rules that the program cannot give, and why.
 UNREACHABLE_REFUSALS = {
     Refusal.NOT_READY: "the program makes every call on a started manager",
     Refusal.ALREADY_STARTED: "the program reads one sheet and starts once",
@@ -424,7 +424,7 @@ def transition_rows(reached: Reached) -> Iterator[str]:
 
 
 def answer_rows(reached: Reached) -> Iterator[str]:
-    """How often each number was the answer, by event; the numbers are hexadecimal as in document 01."""
+    """How often each number was the answer, by event; the numbers are hexadecimal as in the rules."""
     yield "answers, number: times"
     times = reached.times["answers"]
     for tag, numbers in POSSIBLE_ANSWERS.items():

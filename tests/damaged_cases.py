@@ -1,6 +1,6 @@
 """Cases for the program `trace_cases` with damaged sheets and damaged events, and the longest inputs.
 
-Beside a damaged input stands the last line that document 01 gives it, written by hand; refusals print as decimal numbers, so
+Beside a damaged input stands the last line that docs/RULES.md gives it, written by hand; refusals print as decimal numbers, so
 30 to 38 are 48 to 56. The fields of the 25-byte sheet begin at 0, 4, 8, 17 and 21.
 """
 
@@ -24,7 +24,7 @@ SOME_EVENTS = WHOLE_CASE[25:46]  # five events
 
 
 def cut_sheet_cases() -> Iterator[Case]:
-    """The 25-byte sheet cut at every length (0, 21 and 24 are B1, B4 and B3), and cut between fields before events."""
+    """The 25-byte sheet cut at every length (0, 21 and 24 are E1, E4 and E3), and cut between fields before events."""
     for length in range(1, len(SHEET)):
         place = max(start for start in (0, 4, 8, 17, 21) if start <= length)
         if length not in (21, 24):
@@ -51,11 +51,11 @@ AFTER_THE_SHEET = [
 
 # Sheets by refusal. Each is followed by a tick, which must not be run.
 DAMAGED_SHEETS = [
-    # 31: unknown tag
+    # S16: 31, the tag is none of a sheet's
     ("tag 00", bytes(3) + SHEET, "config 49 0"),
     ("tag 07", SHEET[:8] + bytes.fromhex("07000100") + SHEET[8:], "config 49 8"),
     ("tag 0f in a second network", SHEET + SECOND[:21] + bytes.fromhex("0f0000") + SECOND[21:], "config 49 46"),
-    # 32: length not that of the tag
+    # S17: 32, another length than the tag has
     ("handle of length 0", bytes.fromhex("010000") + SHEET[4:], "config 50 0"),
     ("handle of length 257", bytes.fromhex("010101") + bytes(257) + SHEET[4:], "config 50 0"),
     ("controller of length 2", HANDLE + bytes.fromhex("0200020304") + SHEET[8:], "config 50 4"),
@@ -64,7 +64,7 @@ DAMAGED_SHEETS = [
     ("times of length 7", SHEET[:8] + bytes.fromhex("04000700010001000100") + SHEET[17:], "config 50 8"),
     ("threshold of length 65,535, which overruns", SHEET[:17] + bytes.fromhex("05ffff01") + SHEET[21:], "config 50 17"),
     ("a last field that swallows the tick", SHEET[:21] + bytes.fromhex("06000400"), "config 50 21"),
-    # 33: tag not allowed here
+    # S19: 33, out of the order of fields
     ("controller first", SHEET[4:], "config 51 0"),
     ("handle twice", HANDLE + SHEET, "config 51 4"),
     ("transceiver before controllers", HANDLE + TRANSCEIVER + SHEET[4:], "config 51 4"),
@@ -75,14 +75,14 @@ DAMAGED_SHEETS = [
     ("partial networking after the times", SHEET[:17] + NO_PARTIAL, "config 51 17"),
     ("a second network before the end of the first", SHEET[:21] + SECOND, "config 51 21"),
     ("a controller after the end of a network", SHEET + SECOND[4:], "config 51 25"),
-    # 34: value out of range
+    # S20: 34, out of range
     ("controller 32", HANDLE + bytes.fromhex("02000120") + SHEET[8:], "config 52 4"),
     ("transceiver 8", SHEET[:8] + bytes.fromhex("03000108") + SHEET[8:], "config 52 8"),
     ("long delay zero", SHEET[:13] + bytes(2) + SHEET[15:], "config 52 8"),
     ("ensure time zero", SHEET[:15] + bytes(2) + SHEET[17:], "config 52 8"),
     ("partial networking 2, before 37", SHEET[:24] + b"\x02", "config 52 21"),
     ("controller 255 in a second network", SHEET + SECOND[:7] + b"\xff" + SECOND[8:], "config 52 29"),
-    # 35: id used before
+    # S21: 35, the id was used before
     ("the handle of the first network", SHEET + HANDLE + SECOND[4:], "config 53 25"),
     ("the controller of the first network", SHEET + SECOND[:4] + CONTROLLER + SECOND[8:], "config 53 29"),
     ("the transceiver of the first network",
@@ -90,16 +90,16 @@ DAMAGED_SHEETS = [
     ("a fifth controller that is used",
      HANDLE + b"".join(field(Tag.CONTROLLER, number) for number in (0, 1, 2, 3, 3)) + SHEET[8:], "config 53 20"),
     ("a ninth network with a used handle", LARGEST_SHEET + field(Tag.HANDLE, 255), "config 53 328"),
-    # 36: ninth network or fifth controller
+    # S22: 36, a network or a controller too many
     ("a fifth controller",
      HANDLE + b"".join(field(Tag.CONTROLLER, number) for number in range(5)) + SHEET[8:], "config 54 20"),
     ("a ninth network", LARGEST_SHEET + field(Tag.HANDLE, 1), "config 54 328"),
-    # 37: partial networking without transceiver; the first network has one
+    # S23: 37, partial networking without a transceiver; the first network has one
     ("a second network without transceiver",
      SHEET[:8] + TRANSCEIVER + SHEET[8:24] + b"\x01" + SECOND[:24] + b"\x01", "config 55 50"),
 ]
 
-# 38: no sheet, since the first tag is 10 or above; in hexadecimal.
+# S25: 38, no sheet, since the first tag is 10 or above; in hexadecimal.
 WITHOUT_SHEET = [
     ("a tick first", "160000"),
     ("a lone 10 first", "10"),

@@ -1,5 +1,5 @@
 #!/usr/bin/env python3
-"""The recordings in `examples`: what the model of document 01 writes for each.
+"""The recordings in `examples`: what the model of the rules writes for each.
 
 Each `examples/NAME.script` is a recording as text, of which `tools/recording` makes the bytes, and `examples/NAME.txt` its expected
 output. The whole case is also the program's own stored run, `crates/cantrace/stdin` and `stdout`. Without arguments it writes these

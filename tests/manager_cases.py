@@ -1,5 +1,5 @@
 #!/usr/bin/env python3
-"""Writes the input and the expected output of the program `manager_cases`: calls of the manager, by the model of document 01.
+"""Writes the input and the expected output of the program `manager_cases`: calls of the manager, by the model of the rules.
 
 The cases stand below as lists of calls: a name, its arguments, and for a call with a lent buffer the number of bytes lent.
 Without arguments it writes `crates/manager_cases/stdin` and `stdout`; with --check it compares, and exits 1 if anything differs.
@@ -46,7 +46,7 @@ def network(handle, controllers, transceiver=None, times=(2, 5, 3), threshold=1,
     return model.write_network(model.Settings(handle, list(controllers), transceiver, *times, threshold, partial))
 
 
-# The sheet of document 01's whole case and of its bench cases.
+# The sheet of the whole case and of the bench cases, which are E1 to E12 of docs/RULES.md.
 SHEET = bytes.fromhex("01000107 02000103 040006000200050003 05000101 06000100")
 # A network with a transceiver, and one with partial networking too.
 WITH_TRANSCEIVER = network(9, [4], 6, times=(1, 2, 1), threshold=0)
@@ -97,26 +97,26 @@ BUS_OFF = ("bus-off", 3, RECORDS_ROOM)
 # ---------------------------------------------------------------------------
 
 WHOLE_CASE = [
-    # The whole case of document 01.
+    # E13: the whole case.
     [*begun(SHEET), *DOWN, *UP, BUS_OFF, *RESTARTED, TICK, TICK, ("poll", 7)],
 ]
 
 BENCH_CASES = [
-    # B9: one bus-off in step 5, full on the fourth tick.
+    # E9: a bus-off in step 5, and four ticks later the network is full.
     [*begun(SHEET), *DOWN, *UP, *CHECKED, BUS_OFF, *RESTARTED, TICK, TICK, ("poll", 7)],
-    # B9: a second bus-off in step 7, full on the seventh tick after it, passed on the third after that.
+    # E9: another one in step 7, which makes it seven ticks; passed comes three ticks after that.
     [
         *begun(SHEET), *DOWN, *UP, *CHECKED, BUS_OFF, *RESTARTED, BUS_OFF, *RESTARTED, *ticks(4), ("poll", 7), TICK,
         ("poll", 7), *CHECKED,
     ],
-    # B10: a started answer between bus-off and next tick. It is no answer to what the tick then asks.
+    # E10: an answer "started" after the bus-off and before the next tick. It is no answer to what the tick then asks.
     [*begun(SHEET), *DOWN, *UP, BUS_OFF, *answers([3], 1), TICK, TICK, *answers([3], 1), TICK],
-    # B11: silent asked for in step 0, and in steps 2 and 3; then in step 4.
+    # E11: silent asked for in step 0, and in steps 2 and 3; then in step 4.
     [
         *begun(SHEET), *DOWN, ("request", 7, 1), ("request", 7, 2), TICK, ("request", 7, 1), *answers([3], 0), TICK,
         ("request", 7, 1), *answers([3], 1), TICK, ("request", 7, 1), TICK, ("poll", 7), ("request", 7, 1), TICK,
     ],
-    # B12: a tick with 8 bytes and with 9; a refused one is no tick. After full is told, passed comes on the third.
+    # E12: a tick with 8 bytes and with 9; a refused one is no tick. Passed comes with the third after full was told.
     [
         *begun(SHEET), ("tick", 8), ("tick", 9), *answers([3], 0), ("tick", 9), *answers([3], 2), ("tick", 9), *UP,
         ("tick", 8), ("tick", 9), ("tick", 9), ("tick", 8), ("tick", 9), ("tick", 9),

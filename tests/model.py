@@ -1,8 +1,8 @@
 #!/usr/bin/env python3
-"""A model of the CAN state manager, written from document 01 alone.
+"""A model of the CAN state manager, written from the rules of docs/RULES.md and not from the code.
 
-It is the oracle in tests: slow, plain and close to the words of document 01.
-The words of document 01 stand in single quotation marks above what follows them.
+It is the oracle in tests: slow, plain and close to the rules. A comment that begins with numbers of
+rules and a colon, as `# S19: ..`, stands above the lines that say these rules.
 Run as a program it does what `cantrace` does: recorded input in, lines out.
 """
 
@@ -14,35 +14,55 @@ from typing import Iterator, List, NamedTuple, Optional, Tuple
 # Named numbers
 # ---------------------------------------------------------------------------
 
+# R1: the answer of an accepted call; any other number refuses it
 ACCEPTED = 0
 
 
 class Refusal:
-    """The refusal numbers, 'hexadecimal. 0 means accepted'."""
+    """The numbers of the refusals."""
 
+    # R7: the manager was not started, or has no sheet
     NOT_READY = 0x01
+    # R10: no network has the handle
     UNKNOWN_HANDLE = 0x03
+    # R11: no network has the controller
     UNKNOWN_CONTROLLER = 0x04
+    # R12: no network has the transceiver
     UNKNOWN_TRANSCEIVER = 0x05
+    # R14: silent is asked for, and the network is not up
     SILENT_NOT_NOW = 0x08
+    # R8: the manager runs already
     ALREADY_STARTED = 0x0B
+    # R9: too few bytes were lent
     BUFFER_TOO_SHORT = 0x20
+    # R13: there is no such mode or ok value
     VALUE_OUT_OF_RANGE = 0x21
+    # R15: the step does not take the answer, the report or the bus-off
     NOT_TAKEN = 0x22
+    # S15, S18, S26: the bytes end too early
     SHEET_CUT = 0x30
+    # S16: the tag is none of the table
     SHEET_UNKNOWN_TAG = 0x31
+    # S17: the length is not the tag's
     SHEET_WRONG_LENGTH = 0x32
+    # S19: the tag may not stand here
     SHEET_WRONG_ORDER = 0x33
+    # S20: the value is out of its range
     SHEET_OUT_OF_RANGE = 0x34
+    # S21: the id was used before
     SHEET_USED_BEFORE = 0x35
+    # S22: a network or a controller too many
     SHEET_TOO_MANY = 0x36
+    # S23: partial networking without a transceiver
     SHEET_NO_TRANSCEIVER = 0x37
+    # S25: there is no network
     SHEET_NO_NETWORK = 0x38
 
 
 class Kind:
     """The kinds of the records handed out."""
 
+    # H5 to H12: a number for each kind
     CONTROLLER_MODE = 1
     TRANSCEIVER_MODE = 2
     PDU_MODE = 3
@@ -54,38 +74,43 @@ class Kind:
 
 
 class ControllerMode:
-    """'1 controller mode (0 stopped, 1 started, 2 sleep)'"""
+    """The modes of a controller."""
 
+    # H5: the arguments of kind 1
     STOPPED = 0
     STARTED = 1
     SLEEP = 2
 
 
 class TransceiverMode:
-    """'2 transceiver mode (0 normal, 1 standby)'"""
+    """The modes of a transceiver."""
 
+    # H6: the arguments of kind 2
     NORMAL = 0
     STANDBY = 1
 
 
 class PduMode:
-    """'3 PDU mode of a controller (0 online, 1 TX offline)'"""
+    """Whether a controller may send."""
 
+    # H7: the arguments of kind 3
     ONLINE = 0
     TX_OFFLINE = 1
 
 
 class Mode:
-    """'6 communication manager (0 no, 1 silent, 2 full)'; also the wanted mode."""
+    """The modes of a network, wanted and told."""
 
+    # H10: the arguments of kind 6
     NO = 0
     SILENT = 1
     FULL = 2
 
 
 class ModeManagerNotice:
-    """'7 mode manager (0 no, 1 silent, 2 full, 3 bus-off)'"""
+    """What the mode manager is told."""
 
+    # H11: the arguments of kind 7
     NO = 0
     SILENT = 1
     FULL = 2
@@ -93,15 +118,17 @@ class ModeManagerNotice:
 
 
 class EventManagerNotice:
-    """'8 event manager (0 passed, 1 prefailed)'"""
+    """What the event manager is told."""
 
+    # H12: the arguments of kind 8
     PASSED = 0
     PREFAILED = 1
 
 
 class Step:
-    """'Each network is always in one of fifteen steps'"""
+    """The steps that a network can be in."""
 
+    # N1: the fifteen steps
     NO_COMMUNICATION = 0
     TRANSCEIVER_NORMAL = 1
     CONTROLLERS_STOPPED = 2
@@ -131,6 +158,7 @@ class Tag:
     """The tags of the settings sheet; NONE stands before the first field."""
 
     NONE = 0x00
+    # S4 to S9: a tag for each field of the table
     HANDLE = 0x01
     CONTROLLER = 0x02
     TRANSCEIVER = 0x03
@@ -142,7 +170,9 @@ class Tag:
 class EventTag:
     """The tags of the events of the recorded input."""
 
+    # C3: the lowest tag of an event
     FIRST = 0x10
+    # C7 to C14: a tag for each event
     REQUEST = 0x10
     BUS_OFF = 0x11
     CONTROLLER_ANSWER = 0x12
@@ -154,23 +184,33 @@ class EventTag:
 
 
 class Limit:
-    """The limits that document 01 names."""
+    """The limits that the rules name."""
 
+    # S22: no sheet has more networks, and no network more controllers
     NETWORKS = 8
     CONTROLLERS_OF_A_NETWORK = 4
+    # S5, S6, S8: the largest ids, and the largest threshold
     CONTROLLER_ID = 31
     TRANSCEIVER_ID = 7
     THRESHOLD = 254
+    # B2: where the count of bus-offs stays
     BUS_OFF_COUNT = 255
+    # R13: the largest mode, and the largest ok value
     MODE = 2
     OK = 1
+    # S1: a tag and a length
     HEADER_BYTES = 3
+    # H1: a kind, a target and an argument
     RECORD_BYTES = 3
+    # R17: what a bus-off needs, in every step
     BUS_OFF_BYTES = 9
+    # C1: what the program reads at most
     PROGRAM_INPUT_BYTES = 65536
+    # C5: what the program lends each call
     PROGRAM_BUFFER_BYTES = 144
 
 
+# S4 to S9: how many bytes the value of each field has
 LENGTH_OF_TAG = {
     Tag.HANDLE: 1,
     Tag.CONTROLLER: 1,
@@ -180,6 +220,7 @@ LENGTH_OF_TAG = {
     Tag.PARTIAL_NETWORKING: 1,
 }
 
+# S2, S3, S19: which fields may follow which; the bytes may also end after the last of a network
 ALLOWED_AFTER = {
     Tag.NONE: (Tag.HANDLE,),
     Tag.HANDLE: (Tag.CONTROLLER,),
@@ -190,6 +231,7 @@ ALLOWED_AFTER = {
     Tag.PARTIAL_NETWORKING: (Tag.HANDLE,),
 }
 
+# C7 to C14: how many bytes the value of each event has
 LENGTH_OF_EVENT = {
     EventTag.REQUEST: 2,
     EventTag.BUS_OFF: 1,
@@ -201,6 +243,7 @@ LENGTH_OF_EVENT = {
     EventTag.POLL: 1,
 }
 
+# N1: the mode that a step asks the controllers for
 CONTROLLER_MODE_OF_STEP = {
     Step.CONTROLLERS_STOPPED: ControllerMode.STOPPED,
     Step.CONTROLLERS_STARTED: ControllerMode.STARTED,
@@ -209,20 +252,26 @@ CONTROLLER_MODE_OF_STEP = {
     Step.CONTROLLERS_SLEEP: ControllerMode.SLEEP,
 }
 
+# N1: the mode that a step asks the transceiver for
 TRANSCEIVER_MODE_OF_STEP = {
     Step.TRANSCEIVER_NORMAL: TransceiverMode.NORMAL,
     Step.TRANSCEIVER_STANDBY: TransceiverMode.STANDBY,
 }
 
+# N1: the steps that ask for the wake flag to be cleared, and those that ask for it to be checked
 CLEAR_STEPS = (Step.CLEAR_WAKE,)
 CHECK_STEPS = (Step.CHECK_WAKE, Step.CHECK_WAKE_AGAIN)
+# N2: the steps that have a number of ticks with them
 TIMED_STEPS = (Step.CHECKING, Step.WAITING)
 ALL_STEPS = range(15)
 ALL_OUTFITS = (Outfit.NO_TRANSCEIVER, Outfit.TRANSCEIVER, Outfit.PARTIAL_NETWORKING)
-ASKING_STEPS = (1, 2, 3, 6, 9, 10, 11, 12, 13, 14)  # '1 to 3, 6, 9 to 14'
+# N10: the steps that ask
+ASKING_STEPS = (1, 2, 3, 6, 9, 10, 11, 12, 13, 14)
 COMING_UP_STEPS = (1, 2, 3)
-UP_STEPS = (4, 5, 6, 7, 8)  # 'up is steps 4 to 8'
+# N4: the steps in which a network is up
+UP_STEPS = (4, 5, 6, 7, 8)
 
+# H1: kind, target, argument
 Record = Tuple[int, int, int]
 
 
@@ -254,48 +303,61 @@ class Reading(NamedTuple):
 
 
 def two_byte_number(data: bytes, offset: int) -> int:
-    """'two bytes (high byte first)'"""
+    """The number of two bytes."""
+    # S1: the high byte comes first
     return data[offset] * 256 + data[offset + 1]
 
 
 def times_of(value: bytes) -> Tuple[int, int, int]:
-    """'short delay L1, long delay L2, ensure time, in ticks, two bytes each'"""
+    """The short delay, the long delay and the ensure time."""
+    # S7: three times of two bytes each
     return two_byte_number(value, 0), two_byte_number(value, 2), two_byte_number(value, 4)
 
 
 def layout_refusal(data: bytes, place: int) -> int:
-    """'1 or 2 bytes left (30); unknown tag (31); length not that of the tag (32); value cut (30)'"""
+    """What is wrong with the bytes of a field, whatever stands before it."""
     left = len(data) - place
+    # S15: one or two bytes are left
     if left < Limit.HEADER_BYTES:
         return Refusal.SHEET_CUT
     tag = data[place]
     length = two_byte_number(data, place + 1)
+    # S16: the tag is none of the table
     if tag not in LENGTH_OF_TAG:
         return Refusal.SHEET_UNKNOWN_TAG
+    # S17: the length is not the tag's
     if length != LENGTH_OF_TAG[tag]:
         return Refusal.SHEET_WRONG_LENGTH
+    # S18: the value runs past the end
     if left < Limit.HEADER_BYTES + length:
         return Refusal.SHEET_CUT
     return ACCEPTED
 
 
 def value_in_range(tag: int, value: bytes) -> bool:
-    """The last column of the table of fields."""
+    """Whether the value is in the range that the table gives its field."""
+    # S5: the id of a controller
     if tag == Tag.CONTROLLER:
         return value[0] <= Limit.CONTROLLER_ID
+    # S6: the id of a transceiver
     if tag == Tag.TRANSCEIVER:
         return value[0] <= Limit.TRANSCEIVER_ID
+    # S7, S11: no time is 0; the two delays are not compared
     if tag == Tag.TIMES:
         return all(number >= 1 for number in times_of(value))
+    # S8: the threshold
     if tag == Tag.THRESHOLD:
         return value[0] <= Limit.THRESHOLD
+    # S9: partial networking is 0 or 1
     if tag == Tag.PARTIAL_NETWORKING:
         return value[0] <= 1
-    return True  # a handle may be any byte
+    # S4: a handle may be any byte
+    return True
 
 
 def used_before(tag: int, value: bytes, networks: List[Settings]) -> bool:
-    """'Handles, controller ids and transceiver ids are each used once in the whole sheet.'"""
+    """Whether the id stands in the sheet already, in a finished network or in the last one."""
+    # S10, S21: each kind of ids is compared with its own
     if tag == Tag.HANDLE:
         return any(value[0] == network.handle for network in networks)
     if tag == Tag.CONTROLLER:
@@ -306,7 +368,8 @@ def used_before(tag: int, value: bytes, networks: List[Settings]) -> bool:
 
 
 def one_too_many(tag: int, networks: List[Settings]) -> bool:
-    """'ninth network or fifth controller (36)'"""
+    """Whether the sheet or its last network has no room for one more."""
+    # S22: a ninth network, or a network's fifth controller
     if tag == Tag.HANDLE:
         return len(networks) == Limit.NETWORKS
     if tag == Tag.CONTROLLER:
@@ -315,17 +378,20 @@ def one_too_many(tag: int, networks: List[Settings]) -> bool:
 
 
 def content_refusal(tag: int, value: bytes, last_tag: int, networks: List[Settings]) -> int:
-    """'tag not allowed here by the order of fields, however many there are (33); value out of
-    range (34); id used before (35); ninth network or fifth controller (36); PN without
-    transceiver (37)'"""
+    """What is wrong with a whole field, by its value and by the fields before it."""
+    # S19: the tag may not stand here
     if tag not in ALLOWED_AFTER[last_tag]:
         return Refusal.SHEET_WRONG_ORDER
+    # S20: the value is out of its range
     if not value_in_range(tag, value):
         return Refusal.SHEET_OUT_OF_RANGE
+    # S21: the id was used before
     if used_before(tag, value, networks):
         return Refusal.SHEET_USED_BEFORE
+    # S22: a network or a controller too many
     if one_too_many(tag, networks):
         return Refusal.SHEET_TOO_MANY
+    # S9, S23: partial networking needs a transceiver
     if tag == Tag.PARTIAL_NETWORKING and value[0] == 1 and networks[-1].transceiver is None:
         return Refusal.SHEET_NO_TRANSCEIVER
     return ACCEPTED
@@ -336,6 +402,7 @@ def keep_field(tag: int, value: bytes, networks: List[Settings]) -> None:
     if tag == Tag.HANDLE:
         networks.append(Settings(value[0]))
     elif tag == Tag.CONTROLLER:
+        # S14: the controllers keep the order of the sheet
         networks[-1].controllers.append(value[0])
     elif tag == Tag.TRANSCEIVER:
         networks[-1].transceiver = value[0]
@@ -349,13 +416,14 @@ def keep_field(tag: int, value: bytes, networks: List[Settings]) -> None:
 
 
 def read_sheet(data: bytes) -> Reading:
-    """'The place is the offset of the tag. At the end, no network at all gives 38 at 0, an
-    unfinished one 30 at the input's length.'"""
+    """What reading a sheet gives."""
     networks = []
     last_tag = Tag.NONE
+    # S13: the fields are read one by one, and the place moves on with them
     place = 0
     while place < len(data):
         refusal = layout_refusal(data, place)
+        # S24: a refused field's place is that of its tag
         if refusal != ACCEPTED:
             return Reading(refusal, place, [])
         tag = data[place]
@@ -367,24 +435,29 @@ def read_sheet(data: bytes) -> Reading:
         keep_field(tag, value, networks)
         last_tag = tag
         place = value_place + len(value)
+    # S25: the bytes end before there is a network
     if not networks:
         return Reading(Refusal.SHEET_NO_NETWORK, 0, [])
+    # S26: the bytes end within a network
     if last_tag != Tag.PARTIAL_NETWORKING:
         return Reading(Refusal.SHEET_CUT, len(data), [])
+    # R5: the place of an accepted reading is the length of the sheet
     return Reading(ACCEPTED, len(data), networks)
 
 
 def write_field(tag: int, value: bytes) -> bytes:
-    """'one byte tag, two bytes length (high byte first), the value'"""
+    """A field as bytes."""
+    # S1: its tag, the length of its value with the high byte first, its value
     return bytes([tag]) + len(value).to_bytes(2, "big") + value
 
 
 def write_network(network: Settings) -> bytes:
-    """'A network is these fields in this order', that of the table of fields."""
+    """The fields of a network as bytes."""
     times = b"".join(
         number.to_bytes(2, "big")
         for number in (network.short_delay, network.long_delay, network.ensure_time)
     )
+    # S3: in the order of the table
     written = write_field(Tag.HANDLE, bytes([network.handle]))
     for controller in network.controllers:
         written += write_field(Tag.CONTROLLER, bytes([controller]))
@@ -397,7 +470,8 @@ def write_network(network: Settings) -> bytes:
 
 
 def write_sheet(networks: List[Settings]) -> bytes:
-    """'A sheet is one network and then a sheet or its end.'"""
+    """The sheet of these networks."""
+    # S2: a network, and then a further one or nothing more
     return b"".join(write_network(network) for network in networks)
 
 
@@ -416,14 +490,16 @@ def outfit_of(settings: Settings) -> int:
 
 
 def first_down_step(outfit: int) -> int:
-    """'its first down step (9 with PN, else 10)'"""
+    """The step in which going down begins."""
+    # N7: 9 with partial networking, else 10
     if outfit == Outfit.PARTIAL_NETWORKING:
         return Step.CLEAR_WAKE
     return Step.DOWN_STOPPED
 
 
 def next_step_from_no_communication(wanted: int, outfit: int) -> int:
-    """'0: wanted full, enter 1, or 2 without transceiver.'"""
+    """The step after a tick in step 0."""
+    # T4: where full is wanted step 1, without a transceiver step 2
     if wanted != Mode.FULL:
         return Step.NO_COMMUNICATION
     if outfit == Outfit.NO_TRANSCEIVER:
@@ -432,9 +508,10 @@ def next_step_from_no_communication(wanted: int, outfit: int) -> int:
 
 
 def next_step_coming_up(step: int, done: bool) -> int:
-    """'1 done to 2; 2 done to 3; 3 done, enter full.'"""
+    """The step after a tick in one of the steps 1 to 3."""
     if not done:
         return step
+    # T5 to T7: each leads to the next, and the last of them to full
     return {
         Step.TRANSCEIVER_NORMAL: Step.CONTROLLERS_STOPPED,
         Step.CONTROLLERS_STOPPED: Step.CONTROLLERS_STARTED,
@@ -443,58 +520,66 @@ def next_step_coming_up(step: int, done: bool) -> int:
 
 
 def next_step_full(step: int, wanted: int, reached: bool) -> int:
-    """'4 and 5: wanted silent, enter silent. Else in 4 the tick count rises by one; at the ensure
-    time: 8 passed, count 0, step 5.'"""
+    """The step after a tick in step 4 or 5."""
+    # T8: silent is wanted
     if wanted == Mode.SILENT:
         return Step.SILENT
+    # T10: the ensure time is reached
     if step == Step.CHECKING and reached:
         return Step.FULL
     return step
 
 
 def next_step_waiting(wanted: int, reached: bool) -> int:
-    """'7: the tick count rises by one; when it reaches L2 (count above threshold) or L1
-    (otherwise), enter full or silent, as wanted.'"""
+    """The step after a tick in step 7."""
     if not reached:
         return Step.WAITING
+    # T13: the delay is over
     if wanted == Mode.FULL:
         return Step.CHECKING
     return Step.SILENT
 
 
 def next_step_up(step: int, wanted: int, done: bool, reached: bool) -> int:
-    """'6 done: 3 TX offline for each controller, tick count 0, step 7.' and
-    '8: wanted full, enter full.'; 4, 5 and 7 have functions of their own."""
+    """The step after a tick in one of the steps 4 to 8."""
     if step in (Step.CHECKING, Step.FULL):
         return next_step_full(step, wanted, reached)
+    # T11: the controllers run again, and the wait begins
     if step == Step.RESTARTING:
         return Step.WAITING if done else step
     if step == Step.WAITING:
         return next_step_waiting(wanted, reached)
+    # T14: from silent back to full
     return Step.CHECKING if wanted == Mode.FULL else step
 
 
 def next_step_down(step: int, done: bool, outfit: int) -> int:
-    """'Without PN: 10 to 12, 12 to 11 or, without transceiver, to 0; 11 to 0.'
-    The steps 9, 13 and 14 do not occur without PN; there they stay."""
+    """The step after a tick in a step from 9 on, without partial networking.
+
+    The steps 9, 13 and 14 do not occur there; they stay.
+    """
     if not done:
         return step
+    # T15: from stopped to asleep
     if step == Step.DOWN_STOPPED:
         return Step.CONTROLLERS_SLEEP
+    # T16: from asleep to standby where there is a transceiver
     if step == Step.CONTROLLERS_SLEEP and outfit == Outfit.TRANSCEIVER:
         return Step.TRANSCEIVER_STANDBY
+    # T16, T17: else from asleep, and from standby, to step 0
     if step in (Step.CONTROLLERS_SLEEP, Step.TRANSCEIVER_STANDBY):
         return Step.NO_COMMUNICATION
     return step
 
 
 def next_step_down_partial(step: int, done: bool, refusal_present: bool) -> int:
-    """'With PN: 9, 10, 11, 12 in turn. In 12, if some controller's last answer is a refusal, 14;
-    else when done, 13. 13 to 0; 14 to 9.'"""
+    """The step after a tick in a step from 9 on, with partial networking."""
+    # T19: some controller refuses to sleep
     if step == Step.CONTROLLERS_SLEEP and refusal_present:
         return Step.CHECK_WAKE_AGAIN
     if not done:
         return step
+    # T18, T20 to T22: from 9 to 12 one after the other, then 13 and 0; from 14 back to 9
     return {
         Step.CLEAR_WAKE: Step.DOWN_STOPPED,
         Step.DOWN_STOPPED: Step.TRANSCEIVER_STANDBY,
@@ -508,9 +593,10 @@ def next_step_down_partial(step: int, done: bool, refusal_present: bool) -> int:
 def next_step(
     step: int, wanted: int, done: bool, refusal_present: bool, reached: bool, outfit: int
 ) -> int:
-    """The step after one tick. '1 to 8: wanted no, go down. This comes first.'"""
+    """The step after one tick."""
     if step == Step.NO_COMMUNICATION:
         return next_step_from_no_communication(wanted, outfit)
+    # T3: where no is wanted the network goes down, before anything else is looked at
     if step in COMING_UP_STEPS + UP_STEPS and wanted == Mode.NO:
         return first_down_step(outfit)
     if step in UP_STEPS:
@@ -546,24 +632,28 @@ def decisions() -> Iterator[int]:
 
 @dataclass
 class NetworkRecord:
-    """'It also has the wanted mode, the mode last told by kind 6 (what polling gives), the bus-off
-    count, whether the step has asked, each controller's last answer in this step, and whether its
-    transceiver, clear or check report has come.' An answer is None until it comes."""
+    """What the manager keeps of a network. An answer is None until it comes."""
 
     settings: Settings
+    # N1: the step that it is in
     step: int
+    # N3: the last answer of each controller in this step
     answers: List[Optional[bool]]
+    # N2: the ticks of step 4 or 7
     tick_count: int = 0
+    # N3: the wanted mode, and the mode that kind 6 last told
     wanted: int = Mode.NO
     told: int = Mode.NO
+    # N3: the count of bus-offs
     bus_off_count: int = 0
+    # N3: whether the step has asked, and whether the report that it waits for has come
     asked: bool = False
     reported: bool = False
 
 
 def started_network(settings: Settings) -> NetworkRecord:
-    """'Start puts each network in its first down step (9 with PN, else 10), not asked, wanted and
-    told mode no, count 0, and hands out nothing'"""
+    """What the manager keeps of a network right after the start."""
+    # N7, N8: the first down step, not asked yet; no is wanted and told, no bus-off is counted
     step = first_down_step(outfit_of(settings))
     return NetworkRecord(settings, step, [None] * len(settings.controllers))
 
@@ -576,19 +666,21 @@ def set_step(network: NetworkRecord, step: int) -> None:
 
 
 def forget_answers(network: NetworkRecord) -> None:
-    """'not asked, answers forgotten'"""
+    """Let the step have asked for nothing yet, and forget what was answered."""
     network.asked = False
     network.answers = [None] * len(network.settings.controllers)
     network.reported = False
 
 
 def records_for_controllers(network: NetworkRecord, kind: int, argument: int) -> List[Record]:
-    """'the order of controllers in the sheet is the order of requests'"""
+    """A record for each controller of the network."""
+    # S14: in the order of the sheet
     return [(kind, controller, argument) for controller in network.settings.controllers]
 
 
 def tell_communication_manager(network: NetworkRecord, mode: int) -> List[Record]:
-    """Hand out kind 6 and keep 'the mode last told by kind 6 (what polling gives)'."""
+    """Hand out kind 6, and keep what was told."""
+    # N5, N6: by this mode the network is full or not, and a poll gives it
     network.told = mode
     return [(Kind.COMMUNICATION_MANAGER, network.settings.handle, mode)]
 
@@ -604,13 +696,15 @@ def tell_event_manager(network: NetworkRecord, notice: int) -> List[Record]:
 
 
 def requests_of_step(network: NetworkRecord) -> List[Record]:
-    """The requests of an asking step, 'for controllers to all of the network'."""
+    """What the step asks for, as records."""
     step = network.step
     transceiver = network.settings.transceiver
+    # N11: where it is about controllers, each of the network is asked
     if step in CONTROLLER_MODE_OF_STEP:
         return records_for_controllers(network, Kind.CONTROLLER_MODE, CONTROLLER_MODE_OF_STEP[step])
     if step in TRANSCEIVER_MODE_OF_STEP:
         return [(Kind.TRANSCEIVER_MODE, transceiver, TRANSCEIVER_MODE_OF_STEP[step])]
+    # H8, H9: the argument is 0
     if step in CLEAR_STEPS:
         return [(Kind.CLEAR_WAKE_FLAG, transceiver, 0)]
     if step in CHECK_STEPS:
@@ -619,14 +713,15 @@ def requests_of_step(network: NetworkRecord) -> List[Record]:
 
 
 def ask(network: NetworkRecord) -> List[Record]:
-    """'sends its requests [...] and counts as asked'"""
+    """Hand out what the step asks for, and keep that it has asked."""
+    # N11, N12: on entering the step, and again on each later tick until it is done
     network.asked = True
     return requests_of_step(network)
 
 
 def is_done(network: NetworkRecord) -> bool:
-    """'Done means: asked, and every controller's last answer ok; or the transceiver reported the
-    asked mode; or the clear or check was reported.'"""
+    """Whether the network is in a step that asks, and all that it asks for is answered."""
+    # N13: it has asked; and every controller's last answer is ok, or the report has come
     if network.step not in ASKING_STEPS or not network.asked:
         return False
     if network.step in CONTROLLER_MODE_OF_STEP:
@@ -635,17 +730,19 @@ def is_done(network: NetworkRecord) -> bool:
 
 
 def refusal_is_present(network: NetworkRecord) -> bool:
-    """'if some controller's last answer is a refusal'"""
+    """Whether the last answer of some controller is a refusal."""
+    # T19: an answer that has not come is no refusal
     return any(answer is False for answer in network.answers)
 
 
 def timer_is_reached(network: NetworkRecord) -> bool:
-    """Whether the tick count, risen by one, is 'at the ensure time' in step 4, or in step 7
-    'reaches L2 (count above threshold) or L1 (otherwise)'."""
+    """Whether this tick reaches the time that the step waits for."""
     settings = network.settings
     risen = network.tick_count + 1
+    # T10: the ensure time
     if network.step == Step.CHECKING:
         return risen >= settings.ensure_time
+    # S8, T13: the long delay where the count is above the threshold, else the short one
     if network.step == Step.WAITING:
         above_threshold = network.bus_off_count > settings.threshold
         return risen >= (settings.long_delay if above_threshold else settings.short_delay)
@@ -653,13 +750,15 @@ def timer_is_reached(network: NetworkRecord) -> bool:
 
 
 def enter_asking_step(network: NetworkRecord, step: int) -> List[Record]:
-    """'Entering one by a tick forgets answers, sends its requests [...] and counts as asked.'"""
+    """Enter a step that asks."""
+    # N11: the answers are forgotten, and it asks at once
     set_step(network, step)
     return ask(network)
 
 
 def enter_full(network: NetworkRecord) -> List[Record]:
-    """'Enter full: 3 online for each, 6 full, 7 full, tick count 0, step 4.'"""
+    """Enter full."""
+    # T23: step 4 with 0 ticks; every controller may send, and both managers are told full
     set_step(network, Step.CHECKING)
     records = records_for_controllers(network, Kind.PDU_MODE, PduMode.ONLINE)
     records += tell_communication_manager(network, Mode.FULL)
@@ -667,7 +766,8 @@ def enter_full(network: NetworkRecord) -> List[Record]:
 
 
 def enter_silent(network: NetworkRecord) -> List[Record]:
-    """'Enter silent: 3 TX offline for each, 6 silent, 7 silent, step 8.'"""
+    """Enter silent."""
+    # T24: step 8; no controller may send, and both managers are told silent
     set_step(network, Step.SILENT)
     records = records_for_controllers(network, Kind.PDU_MODE, PduMode.TX_OFFLINE)
     records += tell_communication_manager(network, Mode.SILENT)
@@ -675,20 +775,23 @@ def enter_silent(network: NetworkRecord) -> List[Record]:
 
 
 def all_clear(network: NetworkRecord) -> List[Record]:
-    """'at the ensure time: 8 passed, count 0, step 5'"""
+    """Give the all-clear."""
+    # T10, T27: step 5; the bus-offs count from 0, and the event manager is told passed
     set_step(network, Step.FULL)
     network.bus_off_count = 0
     return tell_event_manager(network, EventManagerNotice.PASSED)
 
 
 def begin_waiting(network: NetworkRecord) -> List[Record]:
-    """'6 done: 3 TX offline for each controller, tick count 0, step 7.'"""
+    """Begin the wait of a recovery."""
+    # T11: step 7 with 0 ticks; no controller may send
     set_step(network, Step.WAITING)
     return records_for_controllers(network, Kind.PDU_MODE, PduMode.TX_OFFLINE)
 
 
 def go_down(network: NetworkRecord, step: int) -> List[Record]:
-    """'Go down: 7 no; 6 silent if told full; then the first down step and its requests.'"""
+    """Go down, beginning with this step."""
+    # T25: no for the mode manager, silent where full was told, then what the step asks for
     records = tell_mode_manager(network, ModeManagerNotice.NO)
     if network.told == Mode.FULL:
         records += tell_communication_manager(network, Mode.SILENT)
@@ -696,7 +799,8 @@ def go_down(network: NetworkRecord, step: int) -> List[Record]:
 
 
 def enter_no_communication(network: NetworkRecord) -> List[Record]:
-    """'Enter 0: 6 no.'"""
+    """Enter step 0."""
+    # T28: the communication manager is told no, whatever it was told before
     set_step(network, Step.NO_COMMUNICATION)
     return tell_communication_manager(network, Mode.NO)
 
@@ -713,23 +817,26 @@ def move_to(network: NetworkRecord, step: int) -> List[Record]:
         return begin_waiting(network)
     if step == Step.SILENT:
         return enter_silent(network)
+    # T26: a shutdown begins from the steps 1 to 8 alone, and not on the way from 14 to 9
     if network.step in COMING_UP_STEPS + UP_STEPS and network.wanted == Mode.NO:
         return go_down(network, step)
     return enter_asking_step(network, step)
 
 
 def stay(network: NetworkRecord) -> List[Record]:
-    """'A later tick, if it isn't done, sends them all again and sets asked; what is already
-    answered stays.'; in the timed steps 'the tick count rises by one'."""
+    """What a tick does to a network that stays in its step."""
+    # T9, T12: one tick more is counted
     if network.step in TIMED_STEPS:
         network.tick_count += 1
+    # N12: a step that is not done asks for all of it again, and keeps the answers that came
     if network.step in ASKING_STEPS and not is_done(network):
         return ask(network)
     return []
 
 
 def tick_network(network: NetworkRecord) -> List[Record]:
-    """'Tick, each network in sheet order, one move at most'"""
+    """What a tick does to a network."""
+    # T1: one move at most
     step = next_step(
         network.step,
         network.wanted,
@@ -744,40 +851,48 @@ def tick_network(network: NetworkRecord) -> List[Record]:
 
 
 def bus_off_network(network: NetworkRecord) -> List[Record]:
-    """'In 4 to 8: count up by one, staying at 255; 8 prefailed, 6 silent, 7 bus-off; step 6, not
-    asked, answers forgotten. In 3: not asked, answers forgotten, nothing handed out.'"""
+    """What a bus-off does to a network in a step that takes it."""
+    # B5: in step 3 the answers are forgotten, and that is all
     if network.step == Step.CONTROLLERS_STARTED:
         forget_answers(network)
         return []
+    # B2: one bus-off more, up to 255
     network.bus_off_count = min(network.bus_off_count + 1, Limit.BUS_OFF_COUNT)
+    # B4: step 6, which has not asked
     set_step(network, Step.RESTARTING)
+    # B3: the event manager, the communication manager and the mode manager are told
     records = tell_event_manager(network, EventManagerNotice.PREFAILED)
     records += tell_communication_manager(network, Mode.SILENT)
     return records + tell_mode_manager(network, ModeManagerNotice.BUS_OFF)
 
 
 def takes_bus_off(network: NetworkRecord) -> bool:
-    """In 4 to 8 and in 3. 'Elsewhere 22.'"""
+    """Whether the step takes a bus-off."""
+    # B6: the steps 3 to 8 alone
     return network.step in UP_STEPS or network.step == Step.CONTROLLERS_STARTED
 
 
 def takes_controller_answer(network: NetworkRecord, mode: int) -> bool:
-    """'A controller answer is taken in a controller step that has asked for just that mode.'"""
+    """Whether the step takes a controller's answer."""
+    # A2: it has asked the controllers, and for this very mode
     return network.asked and CONTROLLER_MODE_OF_STEP.get(network.step) == mode
 
 
 def takes_transceiver_mode(network: NetworkRecord, mode: int) -> bool:
-    """'A transceiver mode (0 to 2) likewise in 1 and 11.'"""
+    """Whether the step takes a transceiver's report."""
+    # A3: it has asked the transceiver, and for this very mode
     return network.asked and TRANSCEIVER_MODE_OF_STEP.get(network.step) == mode
 
 
 def takes_clear_done(network: NetworkRecord) -> bool:
-    """'Clear done in 9 [...] once asked.'"""
+    """Whether the step takes the report that the flag was cleared."""
+    # A4: step 9, once it has asked
     return network.asked and network.step in CLEAR_STEPS
 
 
 def takes_check_done(network: NetworkRecord) -> bool:
-    """'check done in 13 and 14, once asked.'"""
+    """Whether the step takes the report that the flag was checked."""
+    # A5: steps 13 and 14, once they have asked
     return network.asked and network.step in CHECK_STEPS
 
 
@@ -791,7 +906,7 @@ class Outcome:
     """What a call gives back; what does not apply to the call is 0 or empty.
 
     The count is the number of records of a tick or a bus-off, the number of networks of a reading,
-    the sheet's length of a writing. 'Beside a refusal every count and a polled mode are 0.'
+    the sheet's length of a writing.
     """
 
     answer: int
@@ -803,24 +918,29 @@ class Outcome:
 
 
 def refused(answer: int) -> Outcome:
-    """A refusal: no records, and every number beside it is 0."""
+    """A refused call."""
+    # R3: no records, and every number beside the answer is 0
     return Outcome(answer)
 
 
 def accepted_with_records(records: List[Record]) -> Outcome:
-    """'The count is returned'"""
+    """An accepted call that hands out records."""
+    # H2: with them goes how many there are
     return Outcome(ACCEPTED, records=records, count=len(records))
 
 
 def lent_bytes_after(before: bytes, outcome: Outcome) -> bytes:
-    """The lent buffer after a call: 'from the buffer's front [...] and later bytes stay'. 'A refusal
-    leaves all records and lent bytes alone'."""
+    """The lent buffer after a call."""
+    # H2 to H4: records or a sheet fill it from its front, and the bytes behind them stay
+    # R2: a refused call has neither, so every byte stays
     written = outcome.sheet + b"".join(bytes(record) for record in outcome.records)
     return written + before[len(written):]
 
 
 class Manager:
     """The state manager. Before the start it has no network records."""
+
+    # R2, R6: each call makes its tests first, in the order of the table, and only then a change
 
     def __init__(self):
         self.sheet: Optional[List[Settings]] = None
@@ -836,9 +956,12 @@ class Manager:
         return self.networks is not None
 
     def tick_bytes(self) -> int:
-        """'A tick needs 3 x (all controllers + 2 x networks) bytes'"""
+        """How many bytes a tick needs."""
+        # R16: three for each controller and six for each network
         controllers = sum(len(settings.controllers) for settings in self.sheet)
         return Limit.RECORD_BYTES * (controllers + 2 * len(self.sheet))
+
+    # N16: of the networks only the one that has the id is given to a call, to be changed
 
     def network_of_handle(self, handle: int) -> Optional[NetworkRecord]:
         """The network with this handle, if there is one."""
@@ -862,132 +985,170 @@ class Manager:
         return None
 
     def read(self, data: bytes) -> Outcome:
-        """'Reading again before the start replaces the sheet; a refused reading keeps the old one.'
-        'the reader also gives the place (0 with 0B)'"""
+        """Read a sheet."""
+        # R4, R8: a manager that runs reads no sheet, and the place is 0
         if self.is_started():
             return refused(Refusal.ALREADY_STARTED)
         reading = read_sheet(data)
+        # R4, R20: refused by its bytes; the place is theirs, and the former sheet stays in force
         if reading.refusal != ACCEPTED:
             return Outcome(reading.refusal, place=reading.place)
+        # R19: the sheet takes the place of the one before
         self.sheet = reading.networks
+        # R5: how many networks there are, and how long the sheet is
         return Outcome(ACCEPTED, count=len(reading.networks), place=reading.place)
 
     def write(self, lent_length: int) -> Outcome:
-        """'The writer writes from the front too and returns its sheet's length.'"""
+        """Write the sheet into a buffer of this length."""
+        # R7: no sheet was read
         if self.sheet is None:
             return refused(Refusal.NOT_READY)
         sheet = write_sheet(self.sheet)
+        # R9, R18: fewer bytes are lent than the sheet has
         if lent_length < len(sheet):
             return refused(Refusal.BUFFER_TOO_SHORT)
+        # H4: the count is the length of the sheet
         return Outcome(ACCEPTED, count=len(sheet), sheet=sheet)
 
     def start(self) -> Outcome:
-        """'Start puts each network in its first down step [...] and hands out nothing'"""
+        """Start the manager."""
+        # R7: no sheet was read
         if self.sheet is None:
             return refused(Refusal.NOT_READY)
+        # R8: the manager runs already
         if self.is_started():
             return refused(Refusal.ALREADY_STARTED)
+        # N7 to N9: every network goes down first, and nothing is handed out
         self.networks = [started_network(settings) for settings in self.sheet]
         return Outcome(ACCEPTED)
 
     def request(self, handle: int, mode: int) -> Outcome:
-        """'Request stores the wanted mode, nothing else. It's allowed during recovery.'"""
+        """Want a mode of the network with this handle."""
+        # R7: the manager was not started
         if not self.is_started():
             return refused(Refusal.NOT_READY)
+        # R10: no network has the handle
         network = self.network_of_handle(handle)
         if network is None:
             return refused(Refusal.UNKNOWN_HANDLE)
+        # R13: there is no such mode
         if mode > Limit.MODE:
             return refused(Refusal.VALUE_OUT_OF_RANGE)
+        # N15, R14: silent may be asked for while the network is up, which a recovery is
         if mode == Mode.SILENT and network.step not in UP_STEPS:
             return refused(Refusal.SILENT_NOT_NOW)
+        # N14: the mode is stored, and nothing else happens
         network.wanted = mode
         return Outcome(ACCEPTED)
 
     def bus_off(self, controller: int, lent_length: int) -> Outcome:
-        """'Bus-off (names a controller).'; it needs 9 bytes in every step."""
+        """A bus-off of this controller."""
+        # R7: the manager was not started
         if not self.is_started():
             return refused(Refusal.NOT_READY)
+        # R9, R17: it needs 9 bytes in every step
         if lent_length < Limit.BUS_OFF_BYTES:
             return refused(Refusal.BUFFER_TOO_SHORT)
+        # B1, R11: it concerns the network that has the controller, and there may be none
         network = self.network_of_controller(controller)
         if network is None:
             return refused(Refusal.UNKNOWN_CONTROLLER)
+        # B6, R15: the step does not take it
         if not takes_bus_off(network):
             return refused(Refusal.NOT_TAKEN)
         return accepted_with_records(bus_off_network(network))
 
     def controller_answer(self, controller: int, mode: int, ok: int) -> Outcome:
-        """'A controller answer (id, mode 0 to 2, ok 0 or 1)'; a later one replaces an earlier."""
+        """The answer of a controller to the request for a mode."""
+        # R7: the manager was not started
         if not self.is_started():
             return refused(Refusal.NOT_READY)
+        # R11: no network has the controller
         network = self.network_of_controller(controller)
         if network is None:
             return refused(Refusal.UNKNOWN_CONTROLLER)
+        # A1, R13: the mode is from 0 to 2, and ok is 0 or 1
         if mode > Limit.MODE or ok > Limit.OK:
             return refused(Refusal.VALUE_OUT_OF_RANGE)
+        # A6, R15: the step does not take it
         if not takes_controller_answer(network, mode):
             return refused(Refusal.NOT_TAKEN)
+        # A2: it takes the place of an earlier answer
         network.answers[network.settings.controllers.index(controller)] = ok == 1
         return Outcome(ACCEPTED)
 
     def transceiver_mode(self, transceiver: int, mode: int) -> Outcome:
-        """'A transceiver mode (0 to 2) likewise in 1 and 11.'"""
+        """The report of a transceiver that it is in a mode."""
+        # R7: the manager was not started
         if not self.is_started():
             return refused(Refusal.NOT_READY)
+        # R12: no network has the transceiver
         network = self.network_of_transceiver(transceiver)
         if network is None:
             return refused(Refusal.UNKNOWN_TRANSCEIVER)
+        # A3, R13: the mode is from 0 to 2
         if mode > Limit.MODE:
             return refused(Refusal.VALUE_OUT_OF_RANGE)
+        # A6, R15: the step does not take it
         if not takes_transceiver_mode(network, mode):
             return refused(Refusal.NOT_TAKEN)
         network.reported = True
         return Outcome(ACCEPTED)
 
     def clear_done(self, transceiver: int) -> Outcome:
-        """'Clear done in 9 [...] once asked. Else 22.'"""
+        """The report that the wake flag of a transceiver was cleared."""
+        # R7: the manager was not started
         if not self.is_started():
             return refused(Refusal.NOT_READY)
+        # R12: no network has the transceiver
         network = self.network_of_transceiver(transceiver)
         if network is None:
             return refused(Refusal.UNKNOWN_TRANSCEIVER)
+        # A6, R15: the step does not take it
         if not takes_clear_done(network):
             return refused(Refusal.NOT_TAKEN)
         network.reported = True
         return Outcome(ACCEPTED)
 
     def check_done(self, transceiver: int) -> Outcome:
-        """'check done in 13 and 14, once asked. Else 22.'"""
+        """The report that the wake flag of a transceiver was checked."""
+        # R7: the manager was not started
         if not self.is_started():
             return refused(Refusal.NOT_READY)
+        # R12: no network has the transceiver
         network = self.network_of_transceiver(transceiver)
         if network is None:
             return refused(Refusal.UNKNOWN_TRANSCEIVER)
+        # A6, R15: the step does not take it
         if not takes_check_done(network):
             return refused(Refusal.NOT_TAKEN)
         network.reported = True
         return Outcome(ACCEPTED)
 
     def tick(self, lent_length: int) -> Outcome:
-        """'Tick, each network in sheet order, one move at most (a refused tick counts nowhere as a
-        tick)'"""
+        """Let one tick pass."""
+        # R7: the manager was not started
         if not self.is_started():
             return refused(Refusal.NOT_READY)
+        # R9, R16, T2: too few bytes are lent; for no network has a tick passed
         if lent_length < self.tick_bytes():
             return refused(Refusal.BUFFER_TOO_SHORT)
+        # T1: the networks move in the order of the sheet
         records = []
         for network in self.networks:
             records += tick_network(network)
         return accepted_with_records(records)
 
     def poll(self, handle: int) -> Outcome:
-        """'the mode last told by kind 6 (what polling gives)'"""
+        """The mode of the network with this handle."""
+        # R7: the manager was not started
         if not self.is_started():
             return refused(Refusal.NOT_READY)
+        # R10: no network has the handle
         network = self.network_of_handle(handle)
         if network is None:
             return refused(Refusal.UNKNOWN_HANDLE)
+        # N6: the mode that kind 6 last told
         return Outcome(ACCEPTED, mode=network.told)
 
 
@@ -1005,10 +1166,11 @@ def field_is_cut(data: bytes, place: int) -> bool:
 
 
 def split_place(data: bytes) -> int:
-    """'Splitting the input walks field by field, the rest always shorter, to the first tag of 10 or
-    above; if a field is cut, all the rest is sheet.' The tag is looked at before the cut."""
+    """Where the sheet ends and the events begin."""
     place = 0
+    # C2, C3: from field to field up to the first event; its tag is looked at before a cut
     while place < len(data) and data[place] < EventTag.FIRST:
+        # C4: all that is left belongs to the sheet
         if field_is_cut(data, place):
             return len(data)
         place += Limit.HEADER_BYTES + two_byte_number(data, place + 1)
@@ -1016,51 +1178,61 @@ def split_place(data: bytes) -> int:
 
 
 def event_is_bad(data: bytes, place: int) -> bool:
-    """'An event field that is cut, unknown, below 10 or of wrong length'"""
+    """Whether the field at this place is no good event."""
+    # C21: it is cut, no event has its tag, or its length is not that of the event
     if field_is_cut(data, place):
         return True
     return LENGTH_OF_EVENT.get(data[place]) != two_byte_number(data, place + 1)
 
 
 def run_event(manager: Manager, tag: int, value: bytes) -> Outcome:
-    """'10 request (handle, mode), 11 bus-off (controller), 12 answer (controller, mode, ok), 13
-    transceiver mode (id, mode), 14 clear done (id), 15 check done (id), 16 tick (empty), 17 poll
-    (handle)'"""
+    """Make the call of an event."""
+    # C7: a handle and a mode
     if tag == EventTag.REQUEST:
         return manager.request(value[0], value[1])
+    # C5, C8: a controller
     if tag == EventTag.BUS_OFF:
         return manager.bus_off(value[0], Limit.PROGRAM_BUFFER_BYTES)
+    # C9: a controller, a mode and ok
     if tag == EventTag.CONTROLLER_ANSWER:
         return manager.controller_answer(value[0], value[1], value[2])
+    # C10: a transceiver and a mode
     if tag == EventTag.TRANSCEIVER_MODE:
         return manager.transceiver_mode(value[0], value[1])
+    # C11: a transceiver
     if tag == EventTag.CLEAR_DONE:
         return manager.clear_done(value[0])
+    # C12: a transceiver
     if tag == EventTag.CHECK_DONE:
         return manager.check_done(value[0])
+    # C5, C13: no value
     if tag == EventTag.TICK:
         return manager.tick(Limit.PROGRAM_BUFFER_BYTES)
+    # C14: a handle
     return manager.poll(value[0])
 
 
 def event_line(number: int, tag: int, outcome: Outcome) -> str:
-    """'its number from 1, the answer, then each record as kind:target:argument, or the mode polled
-    (0 when the poll is refused). All decimal'"""
+    """The line of an event."""
+    # C17, C20: its number and the answer; all numbers are decimal
     words = [str(number), str(outcome.answer)]
+    # C19: a poll has its mode in place of records
     if tag == EventTag.POLL:
         words.append(str(outcome.mode))
+    # C18: the records
     for kind, target, argument in outcome.records:
         words.append(f"{kind}:{target}:{argument}")
     return " ".join(words)
 
 
 def event_lines(manager: Manager, data: bytes, place: int) -> List[str]:
-    """'Then a line an event'; a bad field 'gives `stop` and its offset in the whole input, the last
-    line'."""
+    """The lines of all events, whose fields begin at this place of the input."""
     lines = []
     while place < len(data):
+        # C21: at a bad field the output ends
         if event_is_bad(data, place):
             return lines + [f"stop {place}"]
+        # C6, C17: the call of each event, and a line for it, with numbers from 1 on
         tag = data[place]
         value_place = place + Limit.HEADER_BYTES
         value = data[value_place:value_place + LENGTH_OF_EVENT[tag]]
@@ -1070,16 +1242,19 @@ def event_lines(manager: Manager, data: bytes, place: int) -> List[str]:
 
 
 def cantrace_lines(data: bytes) -> List[str]:
-    """'First line: `config 0` and the number of networks, or `config`, refusal, place, and no
-    more.'"""
+    """The lines of the whole output."""
+    # C1: too long an input has one line
     if len(data) > Limit.PROGRAM_INPUT_BYTES:
         return ["too long"]
+    # C6: the sheet is read, the manager is started, and the events follow
     manager = Manager.new()
     place = split_place(data)
     reading = manager.read(data[:place])
+    # C16: of a refused sheet its number and the place, and no other line
     if reading.answer != ACCEPTED:
         return [f"config {reading.answer} {reading.place}"]
     manager.start()
+    # C15: of an accepted one how many networks it has
     return [f"config {reading.answer} {reading.count}"] + event_lines(manager, data, place)
 
 
@@ -1089,7 +1264,8 @@ def cantrace(data: bytes) -> str:
 
 
 def main() -> None:
-    """'`cantrace` reads at most 65,536 bytes of standard input (more: the line `too long`, alone)'"""
+    """Standard input in, standard output out."""
+    # C1: one byte more is read, which shows that the input is too long
     data = sys.stdin.buffer.read(Limit.PROGRAM_INPUT_BYTES + 1)
     sys.stdout.write(cantrace(data))
 

@@ -15,12 +15,12 @@ UNKNOWN_ID = 99
 
 
 # ---------------------------------------------------------------------------
-# The whole case and the bench cases of document 01
+# The whole case and the bench cases, E13 and E1 to E12 of docs/RULES.md
 # ---------------------------------------------------------------------------
 
 
 def one_bus_off() -> bytes:
-    """One bus-off in step 5, full on the fourth tick."""
+    """A bus-off in step 5, and four ticks later the network is full."""
     trace = Trace(BENCH_NETWORK)
     trace.go_to(Step.FULL)
     trace.bus_off()
@@ -30,7 +30,7 @@ def one_bus_off() -> bytes:
 
 
 def second_bus_off_in_waiting() -> bytes:
-    """A second bus-off in step 7, full on the seventh tick after it."""
+    """Another bus-off in step 7, and seven ticks later the network is full."""
     trace = Trace(BENCH_NETWORK)
     trace.go_to(Step.FULL)
     trace.go_to(Step.WAITING)
@@ -43,7 +43,7 @@ def second_bus_off_in_waiting() -> bytes:
 
 
 def started_answer_before_the_request() -> bytes:
-    """A started answer between bus-off and next tick is refused, and does not count afterwards."""
+    """An answer "started" after the bus-off and before the next tick is refused, and does not count afterwards."""
     trace = Trace(BENCH_NETWORK)
     trace.go_to(Step.FULL)
     trace.bus_off()
@@ -62,7 +62,7 @@ def silent_in_no_communication() -> bytes:
 
 
 def passed_on_the_third_tick() -> bytes:
-    """After full is told, passed comes on the third tick."""
+    """Passed comes with the third tick after full was told."""
     trace = Trace(BENCH_NETWORK)
     trace.go_to(Step.CHECKING)
     trace.tick(3)
@@ -70,22 +70,22 @@ def passed_on_the_third_tick() -> bytes:
 
 
 def paper_cases() -> Iterator[Case]:
-    """Those of document 01. A tick with too short a buffer, as in B12, is not possible in the program."""
+    """Those of docs/RULES.md. A tick with too short a buffer, as in E12, is not possible in the program."""
     yield Case("the whole case", WHOLE_CASE, "18 0 2")
-    yield Case("B1: empty input", b"", "config 56 0")
-    yield Case("B2: the sheet alone", SHEET, "config 0 1")
-    yield Case("B3: its first 24 bytes", SHEET[:24], "config 48 21")
-    yield Case("B4: its first 21 bytes", SHEET[:21], "config 48 21")
-    yield Case("B5: short delay zero", SHEET[:11] + bytes(2) + SHEET[13:] + TICK, "config 52 8")
-    yield Case("B6: the controller field twice", SHEET[:8] + SHEET[4:] + TICK, "config 53 8")
-    yield Case("B7: threshold 254", SHEET[:20] + b"\xfe" + SHEET[21:] + TICK, "1 0 1:3:0")
-    yield Case("B7: threshold 255", SHEET[:20] + b"\xff" + SHEET[21:] + TICK, "config 52 17")
-    yield Case("B8: partial networking without transceiver", SHEET[:24] + b"\x01" + TICK, "config 55 21")
-    yield Case("B9: one bus-off in step 5", one_bus_off(), "21 0 2")
-    yield Case("B9: a second one in step 7", second_bus_off_in_waiting(), "29 0 2")
-    yield Case("B10: a started answer before the new request", started_answer_before_the_request(), "20 0 3:3:1")
-    yield Case("B11: silent in step 0", silent_in_no_communication(), "6 8")
-    yield Case("B12: passed on the third tick", passed_on_the_third_tick(), "14 0 8:7:0")
+    yield Case("E1: empty input", b"", "config 56 0")
+    yield Case("E2: the sheet alone", SHEET, "config 0 1")
+    yield Case("E3: its first 24 bytes", SHEET[:24], "config 48 21")
+    yield Case("E4: its first 21 bytes", SHEET[:21], "config 48 21")
+    yield Case("E5: short delay zero", SHEET[:11] + bytes(2) + SHEET[13:] + TICK, "config 52 8")
+    yield Case("E6: the controller field twice", SHEET[:8] + SHEET[4:] + TICK, "config 53 8")
+    yield Case("E7: threshold 254", SHEET[:20] + b"\xfe" + SHEET[21:] + TICK, "1 0 1:3:0")
+    yield Case("E7: threshold 255", SHEET[:20] + b"\xff" + SHEET[21:] + TICK, "config 52 17")
+    yield Case("E8: partial networking without transceiver", SHEET[:24] + b"\x01" + TICK, "config 55 21")
+    yield Case("E9: one bus-off in step 5", one_bus_off(), "21 0 2")
+    yield Case("E9: a second one in step 7", second_bus_off_in_waiting(), "29 0 2")
+    yield Case("E10: a started answer before the new request", started_answer_before_the_request(), "20 0 3:3:1")
+    yield Case("E11: silent in step 0", silent_in_no_communication(), "6 8")
+    yield Case("E12: passed on the third tick", passed_on_the_third_tick(), "14 0 8:7:0")
 
 
 # ---------------------------------------------------------------------------
@@ -641,7 +641,7 @@ def largest_ticks() -> bytes:
 
 
 def network_cases() -> Iterator[Case]:
-    """Two, three and eight networks; a call that names one network's ids changes no other network's record."""
+    """Two, three and eight networks; a call that names an id of one of them changes none of the others."""
     bare, fitted, partial = OF_OUTFIT.values()
     yield Case("two networks together", together(partial, bare))
     yield Case("two networks of four controllers together", together(*LARGEST[:2]))

@@ -1,5 +1,5 @@
 #!/usr/bin/env python3
-"""Makes the settings-sheet cases for the product from the case list and the model of document 01.
+"""Makes the settings-sheet cases for the product from the case list and the model of the rules.
 
     python3 tests/sheet_cases.py           writes crates/sheet_cases/stdin and .../stdout
     python3 tests/sheet_cases.py --check   compares them instead of writing them
@@ -26,7 +26,7 @@ LINES_SHOWN = 20
 
 
 class Case(NamedTuple):
-    """One case: what is tried, what document 01 says of it in words, and the sheet."""
+    """One case: what is tried, what the rules say of it in words, and the sheet."""
 
     name: str
     expectation: str

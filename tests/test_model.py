@@ -1,7 +1,7 @@
 #!/usr/bin/env python3
-"""Checks the model against the worked examples of document 01 and against its sentences.
+"""Checks the model against the worked examples of docs/RULES.md and against its rules, one by one.
 
-The expected values here are written by hand from document 01; none is made by the model.
+The expected values here are written by hand from the rules; none is made by the model.
 """
 
 import random
@@ -139,7 +139,7 @@ def replied_ticks_until_full(box):
 
 
 class WorkedExamples(unittest.TestCase):
-    """The whole case and the bench cases of document 01."""
+    """The whole case, E13, and the bench cases, E1 to E12."""
 
     def reading(self, sheet):
         reading = model.read_sheet(sheet)
@@ -148,28 +148,28 @@ class WorkedExamples(unittest.TestCase):
     def test_whole_case(self):
         self.assertEqual(model.cantrace(WHOLE_CASE_INPUT), WHOLE_CASE_OUTPUT)
 
-    def test_b1_to_b4_empty_good_and_cut(self):
+    def test_e1_to_e4_empty_good_and_cut(self):
         self.assertEqual(self.reading(b""), (0x38, 0, 0))
         self.assertEqual(self.reading(BENCH_SHEET), (0, 25, 1))
         self.assertEqual(self.reading(BENCH_SHEET[:24]), (0x30, 21, 0))
         self.assertEqual(self.reading(BENCH_SHEET[:21]), (0x30, 21, 0))
 
-    def test_b5_short_delay_zero(self):
+    def test_e5_short_delay_zero(self):
         sheet = BENCH_SHEET[:11] + b"\x00\x00" + BENCH_SHEET[13:]
         self.assertEqual(self.reading(sheet), (0x34, 8, 0))
 
-    def test_b6_controller_field_twice(self):
+    def test_e6_controller_field_twice(self):
         sheet = BENCH_SHEET[:8] + BENCH_SHEET[4:8] + BENCH_SHEET[8:]
         self.assertEqual(self.reading(sheet), (0x35, 8, 0))
 
-    def test_b7_threshold(self):
+    def test_e7_threshold(self):
         self.assertEqual(self.reading(BENCH_SHEET[:20] + b"\xfe" + BENCH_SHEET[21:]), (0, 25, 1))
         self.assertEqual(self.reading(BENCH_SHEET[:20] + b"\xff" + BENCH_SHEET[21:]), (0x34, 17, 0))
 
-    def test_b8_partial_networking_without_transceiver(self):
+    def test_e8_partial_networking_without_transceiver(self):
         self.assertEqual(self.reading(BENCH_SHEET[:24] + b"\x01"), (0x37, 21, 0))
 
-    def test_b9_full_on_the_fourth_and_on_the_seventh_tick(self):
+    def test_e9_full_on_the_fourth_and_on_the_seventh_tick(self):
         box = box_in_step(5)
         self.assertEqual(box.bus_off().answer, 0)
         self.assertEqual(replied_ticks_until_full(box), 4)
@@ -177,28 +177,28 @@ class WorkedExamples(unittest.TestCase):
         self.assertEqual(box.bus_off().answer, 0)
         self.assertEqual(replied_ticks_until_full(box), 7)
 
-    def test_b10_started_answer_between_bus_off_and_next_tick(self):
+    def test_e10_started_answer_before_the_new_request(self):
         box = box_in_step(5)
         box.bus_off()
         self.assertEqual(box.manager.controller_answer(3, 1, 1).answer, 0x22)
 
-    def test_b11_silent_asked_for_in_step_0(self):
+    def test_e11_silent_asked_for_in_step_0(self):
         self.assertEqual(box_in_step(0).manager.request(7, 1).answer, 0x08)
 
-    def test_b12_tick_with_8_and_with_9_bytes(self):
+    def test_e12_tick_with_8_and_with_9_bytes(self):
         manager = Box().manager
         refused = manager.tick(8)
         self.assertEqual((refused.answer, refused.records, refused.count), (0x20, [], 0))
         accepted = manager.tick(9)
         self.assertEqual((accepted.answer, accepted.records, accepted.count), (0, [(1, 3, 0)], 1))
 
-    def test_after_full_is_told_passed_comes_on_the_third_tick(self):
+    def test_e12_passed_with_the_third_tick_after_full(self):
         box = box_in_step(4)
         self.assertEqual([box.tick(), box.tick(), box.tick()], [[], [], [(8, 7, 0)]])
 
 
 class OldFaults(unittest.TestCase):
-    """The faults seen in older boxes must not be in the model."""
+    """What went wrong in older boxes, E14 to E17, must not be in the model."""
 
     def test_started_answer_from_before_a_bus_off_does_not_count(self):
         box = box_in_step(3)
@@ -303,7 +303,7 @@ class Program(unittest.TestCase):
 
 
 class Traces(unittest.TestCase):
-    """Recorded inputs with the lines that document 01 gives, written by hand."""
+    """Recorded inputs with the lines that the rules give, written by hand."""
 
     DOWN_WITH_TRANSCEIVER = [  # from the start to step 0
         ("160000", "0 1:3:0 1:4:0"),
@@ -313,7 +313,7 @@ class Traces(unittest.TestCase):
         ("160000", "0 1:3:2 1:4:2"),
         ("120003 030200", "0"),
         ("120003 040201", "0"),
-        ("160000", "0 1:3:2 1:4:2"),  # without PN a refusal makes it ask again
+        ("160000", "0 1:3:2 1:4:2"),  # without partial networking a refusal makes it ask again
         ("120003 030201", "0"),
         ("160000", "0 2:5:1"),
         ("130002 0500", "34"),
@@ -447,7 +447,7 @@ class SheetList(unittest.TestCase):
 
 
 class CallsBeforeTheStart(unittest.TestCase):
-    """01 and 0B."""
+    """R7, R8, R19 and R20: 01 and 0B, and what reading again does."""
 
     def calls_that_need_a_start(self, manager):
         return [
@@ -503,7 +503,7 @@ class CallsBeforeTheStart(unittest.TestCase):
 
 
 class RefusalOrder(unittest.TestCase):
-    """'The first that applies, from the top, is given.'"""
+    """R6: where several refusals apply, the highest of the table is the answer."""
 
     def setUp(self):
         self.manager = Box(PARTIAL_SHEET).manager
@@ -636,7 +636,7 @@ class StepsAndCalls(unittest.TestCase):
 
 
 class StepRules(unittest.TestCase):
-    """Single sentences of the rules of the tick, the answers and the bus-off."""
+    """Single rules of the tick, the answers and the bus-off."""
 
     def test_later_answer_takes_the_place_of_an_earlier_one(self):
         box = box_in_step(2)

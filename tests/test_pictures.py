@@ -1,5 +1,5 @@
 #!/usr/bin/env python3
-"""Checks the pictures in `docs` against what they are made from, and what they say against document 01. It needs no graphviz.
+"""Checks the pictures in `docs` against what they are made from, and what they say against the rules. It needs no graphviz.
 
 The labels of the steps' arrows are read here from the stored graph, by words that are written by hand, and tried in all 1,080 situations.
 """
@@ -175,7 +175,7 @@ def arrows(dashed: bool) -> List[Tuple[int, int, List[str]]]:
 
 
 class StepsTest(unittest.TestCase):
-    """What the picture of the steps says, against the list of decisions, the model and document 01."""
+    """What the picture of the steps says, against the list of decisions, the model and the rules."""
 
     def test_labels_hold_in_just_the_situations_of_their_moves(self):
         moves = arrows(dashed=False)
@@ -330,7 +330,7 @@ MAY_NOT = "no level may be used from here"
 
 
 class RecoveryTest(unittest.TestCase):
-    """The picture of a recovery, against the stored runs. The expected words are written by hand from document 01."""
+    """The picture of a recovery, against the stored runs. The expected words are written by hand from the rules."""
 
     def picture(self, name: str) -> str:
         return recovery_picture.picture_of(recording(name), output(name), name)

@@ -467,7 +467,7 @@ CALL_REFUSALS = {
     Refusal.UNKNOWN_CONTROLLER: "refused: 0x04, unknown controller",
     Refusal.UNKNOWN_TRANSCEIVER: "refused: 0x05, unknown transceiver",
     Refusal.VALUE_OUT_OF_RANGE: "refused: 0x21, a mode or ok value is out of its range",
-    Refusal.SILENT_NOT_NOW: "refused: 0x08, silent is asked for in a step other than 4 to 8",
+    Refusal.SILENT_NOT_NOW: "refused: 0x08, silent is asked for, and the network is not up (steps 4 to 8)",
     Refusal.NOT_TAKEN: "refused: 0x22, an answer or bus-off that the step does not take",
 }
 

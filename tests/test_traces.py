@@ -27,8 +27,8 @@ from traces import LARGEST, NOT_OK, OF_OUTFIT, SHEET, TICK, WHOLE_CASE, Case, Tr
 
 TESTS_FOLDER = Path(__file__).resolve().parent
 
-# Document 01, 'Tick': the next steps of each step, itself among them where a tick can leave it there; the first down step is
-# one more of each step from 1 to 8.
+# T3 to T22: the next steps of each step, itself among them where a tick can leave it there; the first down step is one more of
+# each step from 1 to 8.
 SHARED_NEXT_STEPS = {
     2: (2, 3), 3: (3, 4), 4: (4, 5, 8), 5: (5, 8), 6: (6, 7), 7: (7, 4, 8), 8: (8, 4),
 }
@@ -39,6 +39,7 @@ NEXT_STEPS = {
         0: (0, 1), 1: (1, 2), 9: (9, 10), 10: (10, 11), 11: (11, 12), 12: (12, 13, 14), 13: (13, 0), 14: (14, 9),
     },
 }
+# B4, B5: those that take a bus-off, and the step after it.
 BUS_OFF_STEPS = {(3, 3), (4, 6), (5, 6), (6, 6), (7, 6), (8, 6)}
 
 
@@ -51,7 +52,7 @@ def reached_by(*inputs):
 
 
 class PossibleTest(unittest.TestCase):
-    """What is said to be reachable, against document 01."""
+    """What is said to be reachable, against the rules."""
 
     def test_transitions(self):
         for outfit, own in NEXT_STEPS.items():
@@ -259,7 +260,7 @@ class StoredCasesTest(unittest.TestCase):
 
     def test_their_last_lines_are_those_written_by_hand(self):
         self.assertEqual([], trace_cases.case_faults(self.cases, self.outputs))
-        wrong = Case("B1", b"", "config 56 1")
+        wrong = Case("E1", b"", "config 56 1")
         self.assertEqual(1, len(trace_cases.case_faults([wrong], [model.cantrace(b"")])))
 
     def test_played_cases_run_to_their_end(self):

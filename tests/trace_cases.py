@@ -1,5 +1,5 @@
 #!/usr/bin/env python3
-"""Makes the stored input and output of the program `trace_cases`: recorded inputs of `cantrace`, by the model of document 01.
+"""Makes the stored input and output of the program `trace_cases`: recorded inputs of `cantrace`, by the model of the rules.
 
     python3 tests/trace_cases.py              writes crates/trace_cases/stdin and .../stdout
     python3 tests/trace_cases.py --check      compares them instead, and exits 1 if anything differs or is not reached

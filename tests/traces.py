@@ -22,7 +22,7 @@ MOST_TURNS_OF_A_WAY = 100
 
 
 class Case(NamedTuple):
-    """One case: what is tried, the input, and where document 01 says it at once the last line of the output."""
+    """One case: what is tried, the input, and where the rules say it at once the last line of the output."""
 
     name: str
     data: bytes
@@ -46,7 +46,7 @@ def network(
     return model.Settings(handle, controllers, transceiver, *times, threshold, partial)
 
 
-# The network of document 01's whole case and of its bench cases, its sheet, and the whole case.
+# The network of the whole case and of the bench cases, its sheet, and the whole case.
 BENCH_NETWORK = network(7, [3])
 SHEET = bytes.fromhex("01000107 02000103 040006000200050003 05000101 06000100")
 WHOLE_CASE = SHEET + bytes.fromhex(

@@ -39,7 +39,7 @@ def shown(field: Field) -> str:
 
 
 def refusal_words(number: int, why: str) -> str:
-    """A refusal: its number as document 01 writes it, and when it is given."""
+    """A refusal: its number as docs/RULES.md writes it, and when it is given."""
     return f"refused: 0x{number:02x}, {why}"
 
 

@@ -1,4 +1,4 @@
-"""The fields of a recording, as document 01 lays them out: one byte tag, two bytes length (high byte first), the value.
+"""The fields of a recording: a byte of tag, two bytes of length with the high one first, and a value of that length (rule S1).
 
 `cantrace` walks a recording field by field, by the lengths as written and whatever the tags. So does `fields_of`, for all bytes.
 """

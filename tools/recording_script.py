@@ -1,7 +1,7 @@
 """Scripts: recordings as plain text, one form a line. `recording_of` makes bytes of a script, `script_of` a script of any bytes.
 
 What a form looks like stands once, in FORMS, and serves both ways. A script is refused with the line and the reason; every
-number that a field has room for can be written, also those that document 01 refuses.
+number that a field has room for can be written, also those that cantrace refuses.
 """
 
 import codecs

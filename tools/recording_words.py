@@ -1,4 +1,4 @@
-"""The words for what a recording and its output hold: events, records and refusals. They are those of document 01.
+"""The words for what a recording and its output hold: events, records and refusals. They are those of docs/RULES.md.
 
 The explanation of an output and the picture of a recovery are made of these. A record has short words too: an arrow of the picture has
 little room, and its columns are headed by the network and its controllers.
@@ -49,7 +49,7 @@ CALL_REFUSALS = {
     0x04: "unknown controller",
     0x05: "unknown transceiver",
     0x21: "a mode or ok value is out of its range",
-    0x08: "silent is asked for in a step other than 4 to 8",
+    0x08: "silent is asked for, and the network is not up (steps 4 to 8)",
     0x22: "an answer or bus-off that the step does not take",
 }
 SHEET_REFUSALS = {

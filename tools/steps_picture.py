@@ -2,7 +2,7 @@
 
 The moves of a tick come from the stored list of all 1,080 decisions, `crates/decisions/stdout`: for each pair of steps the situations in
 which a tick goes from the one to the other, and a label that holds in just these. The bus-offs, which are no decisions of a tick, come from
-the model of document 01 under `tests`.
+the rules, and are compared with the model under `tests`.
 
 A situation is a value for each of the five conditions. A box is a set of values for each condition; it holds the situations with all their
 values in these sets. A label is the smallest number of boxes that together hold just the wanted situations.
@@ -53,7 +53,7 @@ CONDITIONS = (
 SITUATIONS = list(itertools.product(*(range(condition.values) for condition in CONDITIONS)))
 STEPS = 15
 
-# Document 01, "The fifteen steps": what each step is for.
+# N1: what each step is for, in a few words.
 NAMES = (
     "no communication",
     "transceiver normal", "controllers stopped", "controllers started",
@@ -65,7 +65,7 @@ UP = range(4, 9)
 ON = range(1, 9)
 GOING_DOWN = range(9, 15)
 FULL_TOLD = (4, 5)
-# Document 01, "Bus-off": in 4 to 8 the network restarts; in 3 the step begins anew; elsewhere it is refused.
+# B4 to B6: in 4 to 8 the network restarts; in 3 the step begins anew; elsewhere it is refused.
 RESTARTING = 6
 BUS_OFFS = [(3, 3), *((step, RESTARTING) for step in UP)]
 OR = "\nor\n"
@@ -76,7 +76,7 @@ CAPTION = (
     "done, asks again.",
     "The labels are exact even where no network ever is: silent wanted in 1 to 3; steps 9, 13 and 14 without partial",
     "networking; steps 1 and 11 without a transceiver; done beside a refusal.",
-    "Dashed: a bus-off, as document 01 has it; in 3 the step begins anew, elsewhere it is refused.",
+    "Dashed: a bus-off, by the rules B4 to B6; in 3 the step begins anew, elsewhere it is refused.",
     "Double frame: full is told. The start puts a network in 9 with partial networking, else in 10.",
 )
 

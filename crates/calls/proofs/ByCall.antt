@@ -1,6 +1,5 @@
 -- A call of the manager, taken apart once: by the stage, by the slot that its id names, and by what the network makes of it. Whatever holds of each
--- of
--- these cases holds of every call.
+-- of these cases holds of every call.
 use Rattle.lists.proofs.Basics.{ℕ, zero, suc, _*_, _<_, _≤_, arith, ltb-false, _≡_, refl, sym, ap, subst, _∙_, List, [], _∷_, Bool, true, false}
 use Rattle.lists.proofs.Basics.{cond, true≢false, _||_, leb, ltb, length, getD, length-take, getD-take}
 use Rattle.lists.specs.Lists.{any, first}

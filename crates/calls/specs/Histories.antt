@@ -1,4 +1,5 @@
--- Histories: calls with the answers and the records that they gave; the managers that calls can lead to; and how one network sees a call.
+-- Histories: calls with the answers and the records that they gave; the managers that calls can lead to; and how one network sees a call. Then the
+-- answers that a call can have, and what it is lent. The rules R1, R5, R6, H2, H4 and T2 of docs/RULES.md.
 use Prim.Native.Nat.{ℕ}
 use mathlib.Core.Path.{_≡_}
 use mathlib.Core.List.{List, [], _∷_}
@@ -18,7 +19,7 @@ use Rattle.slots.specs.Manager.{answerNumber}
 use Rattle.slots.specs.Calls.{Call, read, write, start, request, poll, busOff, answer, transceiverMode, clearDone, checkDone, tick, newManager}
 use Rattle.slots.specs.Calls.{busOffNeeds, outcome, handedOut}
 
--- the one answer that is no refusal: "0 means accepted"
+-- R1: the one answer that is no refusal has the number 0
 abbrev pub isAccepted : Answer → Bool
 isAccepted a = eqb 0 (answerNumber a)
 
@@ -73,7 +74,7 @@ addressOf (clearDone transceiver) = to (Id.OfTransceiver transceiver) (aReport R
 addressOf (checkDone transceiver) = to (Id.OfTransceiver transceiver) (aReport Report.Checked)
 addressOf (tick room) = toAll
 
--- what it is to one network: "a refused tick counts nowhere as a tick"
+-- T2: what it is to one network; a tick that is refused is none
 abbrev pub seenAs : Network → Bool → Address → Sight
 seenAs n accepted (to id sight) = cond (has id n) sight nothing
 seenAs n accepted toAll = cond accepted aTick nothing
@@ -81,7 +82,7 @@ seenAs n accepted toNobody = nothing
 
 -- ---- the answers that each call can have
 
--- the refusals whose row of the table can apply to such a call, in the order in which they are tested
+-- R6: the refusals whose row of the table can apply to such a call, in the order in which they are tested
 abbrev pub refusalsOf : Call → List ℕ
 refusalsOf (read bytes) = 0x0B ∷ 0x30 ∷ 0x31 ∷ 0x32 ∷ 0x33 ∷ 0x34 ∷ 0x35 ∷ 0x36 ∷ 0x37 ∷ 0x38 ∷ []
 refusalsOf (write room) = 0x01 ∷ 0x20 ∷ []
@@ -95,7 +96,7 @@ refusalsOf (clearDone transceiver) = 0x01 ∷ 0x05 ∷ 0x22 ∷ []
 refusalsOf (checkDone transceiver) = 0x01 ∷ 0x05 ∷ 0x22 ∷ []
 refusalsOf (tick room) = 0x01 ∷ 0x20 ∷ []
 
--- "0 means accepted"
+-- R1: it is accepted, or has one of these refusals
 abbrev pub answersOf : Call → List ℕ
 answersOf c = 0 ∷ refusalsOf c
 
@@ -115,7 +116,7 @@ roomOf (clearDone transceiver) = 0
 roomOf (checkDone transceiver) = 0
 roomOf (tick room) = room
 
--- its count is that of the records: a reading counts networks, and the writer bytes
+-- R5, H2, H4: its count is that of the records: a reading counts networks, and the writer bytes
 abbrev pub countsRecords : Call → Bool
 countsRecords (read bytes) = false
 countsRecords (write room) = false

@@ -1,4 +1,5 @@
 // `cantrace`: reads a recorded input, a sheet and then events, from standard input, and writes its lines.
+// E13: the whole case is its stored input, and what it writes is compared with its stored output.
 use libc::STDIN_FILENO;
 
 // One byte more than the longest input, so that a longer one is seen.

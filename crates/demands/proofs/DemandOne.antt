@@ -1,8 +1,5 @@
--- Demand 1: "Every call, on any settings, id, mode or order, comes back with an answer. A bad one is refused by number, and a refusal leaves the
--- records
--- and the lent buffer exactly as they were." That every call comes back is in the contracts: no public function has a `requires`. That a refusal
--- changes
--- nothing is `refused-changes-nothing`, `refused-untouched` and `refused-unwritten` of `manager_theorems`.
+-- Demand 1: whatever the settings, ids, modes and the order of calls are, each call is answered, a bad one by the number of its refusal (R1, R6). That
+-- a call comes back at all is in the contracts: no public function has a `requires`. That a refusal changes nothing (R2) is `refused-changes-nothing`, `refused-untouched` and `refused-unwritten` of `manager_theorems`.
 use Rattle.lists.proofs.Basics.{ℕ, _≡_, refl, List, true, eqb}
 use Rattle.lists.specs.Lists.{any}
 use Rattle.lists.proofs.Any.{or-second}

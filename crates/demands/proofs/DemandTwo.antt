@@ -1,4 +1,4 @@
--- Demand 2: "Each call and each tick gives exactly the next records and the calls to neighbours that the paper and document 01 give, in that order."
+-- Demand 2: the records after a call or a tick, and what it hands out, are those of the rules and no others.
 -- The outcome of each call is fixed by the definitions (`manager_theorems`, Outcomes); here: two histories of the same calls are equal.
 use Rattle.lists.proofs.Basics.{ℕ, arith, _≡_, refl, List, _∷_, map}
 use Rattle.slots.specs.declared.Manager.{Manager}

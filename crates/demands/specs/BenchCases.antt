@@ -1,5 +1,5 @@
--- The bench cases B1 to B12 of document 01, section "Bench cases", as a single list under a single statement about the definitions, by
--- computation. "Where they count ticks, full stays wanted, each request is answered ok before the next tick and no other bus-off comes."
+-- The examples E1 to E12 of docs/RULES.md, by computation on the definitions: one list, one statement. While ticks are counted full is wanted, an ok
+-- answers every request before the tick that follows it, and there is no bus-off but those of the example.
 use Prim.Native.Nat.{ℕ}
 use mathlib.Core.Path.{_≡_, refl}
 use mathlib.Core.List.{List, [], _∷_, _++_, map}
@@ -44,7 +44,7 @@ case before calls expected = record { before = before; calls = calls; expected =
 abbrev refusedAtPlace : ℕ → ℕ → Seen
 refusedAtPlace number place = record { number = number; count = 0; mode = 0; place = place; records = [] }
 
--- B2 and B7: accepted; "the number of networks and, as place, the sheet's length" are 1 and 25
+-- R5: an accepted reading of the sheet, with one network and 25 bytes
 abbrev sheetTaken : Seen
 sheetTaken = record { number = 0; count = 1; mode = 0; place = 25; records = [] }
 
@@ -64,15 +64,15 @@ takenWith r = record { number = 0; count = 1; mode = 0; place = 0; records = r �
 abbrev takenWithThree : Record → Record → Record → Seen
 takenWithThree r s t = record { number = 0; count = 3; mode = 0; place = 0; records = r ∷ s ∷ t ∷ [] }
 
--- the poll after the fourth tick of B9: the polled mode is 2, full
+-- the poll after the fourth tick of E9: the polled mode is 2, full
 abbrev polledFull : Seen
 polledFull = record { number = 0; count = 0; mode = 2; place = 0; records = [] }
 
--- "3 online for each, 6 full, 7 full", of controller 3 and handle 7
+-- T23: what enters full hands out, for controller 3 and handle 7
 abbrev fullTold : Seen
 fullTold = takenWithThree (handed 3 3 0) (handed 6 7 2) (handed 7 7 2)
 
--- "8 prefailed, 6 silent, 7 bus-off", of handle 7
+-- B3: what a bus-off while up hands out, for handle 7
 abbrev busOffTold : Seen
 busOffTold = takenWithThree (handed 8 7 1) (handed 6 7 1) (handed 7 7 3)
 
@@ -90,7 +90,7 @@ down = ticks ∷ answer 3 0 1 ∷ ticks ∷ answer 3 2 1 ∷ ticks ∷ []
 abbrev pub up : List Call
 up = request 7 2 ∷ ticks ∷ answer 3 0 1 ∷ ticks ∷ answer 3 1 1 ∷ ticks ∷ []
 
--- the bench sheet is read, the manager started, and the network has come to step 0: here B11 asks for silent
+-- the bench sheet is read, the manager started, and the network has come to step 0: here E11 asks for silent
 abbrev atRest : List Call
 atRest = read benchSheet ∷ start ∷ down
 
@@ -98,7 +98,7 @@ atRest = read benchSheet ∷ start ∷ down
 abbrev inStep4 : List Call
 inStep4 = atRest ++ up
 
--- three ticks more, the ensure time, and passed was told: step 5, where B9 and B10 begin
+-- three ticks more, the ensure time, and passed was told: step 5, where E9 and E10 begin
 abbrev inStep5 : List Call
 inStep5 = inStep4 ++ (ticks ∷ ticks ∷ ticks ∷ [])
 
@@ -110,40 +110,40 @@ back = busOff 3 9 ∷ ticks ∷ answer 3 1 1 ∷ ticks ∷ []
 abbrev backSeen : List Seen
 backSeen = busOffTold ∷ takenWith (handed 1 3 1) ∷ taken ∷ takenWith (handed 3 3 1) ∷ []
 
--- "They stand as a single list under a single proved statement about the definitions"
+-- E1 to E12: each with what the definitions give for it, and what is expected
 abbrev pub benchCases : List Case
 benchCases =
-    -- B1 empty: 38 at 0
+    -- E1: no bytes
     case [] (read [] ∷ []) (refusedAtPlace 0x38 0 ∷ [])
-    -- B2 the sheet: accepted, one network
+    -- E2: the sheet
     ∷ case [] (read benchSheet ∷ []) (sheetTaken ∷ [])
-    -- B3 its first 24 bytes: 30 at 21
+    -- E3: 24 bytes of it
     ∷ case [] (read (take 24 benchSheet) ∷ []) (refusedAtPlace 0x30 21 ∷ [])
-    -- B4 its first 21: 30 at 21
+    -- E4: 21 bytes of it
     ∷ case [] (read (take 21 benchSheet) ∷ []) (refusedAtPlace 0x30 21 ∷ [])
-    -- B5 L1 zero: 34 at 8
+    -- E5: a short delay of 0
     ∷ case [] (read (set benchSheet 12 0) ∷ []) (refusedAtPlace 0x34 8 ∷ [])
-    -- B6 the controller field twice: 35 at 8
+    -- E6: the field of the controller a second time
     ∷ case [] (read (take 8 benchSheet ++ drop 4 benchSheet) ∷ []) (refusedAtPlace 0x35 8 ∷ [])
-    -- B7 threshold 254 accepted, 255: 34 at 17
+    -- E7: the thresholds 254 and 255
     ∷ case [] (read (set benchSheet 20 254) ∷ read (set benchSheet 20 255) ∷ []) (sheetTaken ∷ refusedAtPlace 0x34 17 ∷ [])
-    -- B8 PN 1: 37 at 21
+    -- E8: partial networking without a transceiver
     ∷ case [] (read (set benchSheet 24 1) ∷ []) (refusedAtPlace 0x37 21 ∷ [])
-    -- B9 one bus-off in step 5: full on the fourth tick
+    -- E9: one bus-off, with the short delay
     ∷ case inStep5 (back ++ (ticks ∷ ticks ∷ poll 7 ∷ [])) (backSeen ++ (taken ∷ fullTold ∷ polledFull ∷ []))
-    -- a second one in step 7: full on the seventh tick after it
+    -- E9: another in the wait, with the long delay
     ∷ case (inStep5 ++ back) (back ++ (ticks ∷ ticks ∷ ticks ∷ ticks ∷ ticks ∷ [])) (backSeen ++ (taken ∷ taken ∷ taken ∷ taken ∷ fullTold ∷ []))
-    -- B10 a started answer between bus-off and next tick: 22
+    -- E10: an answer from before the request
     ∷ case inStep5 (busOff 3 9 ∷ answer 3 1 1 ∷ []) (busOffTold ∷ refusedWith 0x22 ∷ [])
-    -- B11 silent asked for in step 0: 08
+    -- E11: silent in step 0
     ∷ case atRest (request 7 1 ∷ []) (refusedWith 0x08 ∷ [])
-    -- B12 a tick with 8 bytes: 20; with 9: accepted
+    -- E12: ticks with 8 and with 9 bytes
     ∷ case (read benchSheet ∷ start ∷ []) (tick 8 ∷ tick 9 ∷ []) (refusedWith 0x20 ∷ takenWith (handed 1 3 0) ∷ [])
-    -- After full is told, passed comes on the third tick
+    -- E12: the ensure time
     ∷ case inStep4 (ticks ∷ ticks ∷ ticks ∷ []) (taken ∷ taken ∷ takenWith (handed 8 7 0) ∷ [])
     ∷ []
 
--- B1 to B12: the definitions give just this
+-- E1 to E12: the definitions give just what is expected
 pub bench : map (λ (c : Case). seen (run newManager (c .before)) (c .calls)) benchCases ≡ map (λ (c : Case). c .expected) benchCases
 unfolding computedOutcome seen
 bench = refl

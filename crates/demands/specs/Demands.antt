@@ -1,10 +1,5 @@
--- Demand 3 for a network of a started manager, over every history of calls since the start, as the network sees it: "If a network is said to be
--- full, every
--- controller of it was asked to start and answered that it runs, after the latest of the start, its last bus-off and its last shutdown; after a
--- bus-off
--- while up, the right delay plus two ticks have passed; and under good conditions full is said on just that tick." A history has the latest call
--- first: in
--- s ++ (b ∷ h), s follows the bus-off b, which follows h.
+-- Demand 3 for a network of a started manager, over every history of calls since the start, as the network sees it. The words of its sentences stand
+-- in `network_demands`. A history has the latest call first: in s ++ (b ∷ h), s follows the bus-off b, which follows h.
 use Prim.Native.Nat.{ℕ, _+_, _*_, _≤_}
 use mathlib.Core.Path.{_≡_}
 use mathlib.Core.List.{_∷_, _++_}
@@ -27,7 +22,7 @@ pub record Begun (m₀ : Manager) : Type 0 where
   pub accepted : outcome before start .answer ≡ Answer.Accepted
   pub same : m₀ ≡ outcome before start .manager
 
--- "A tick needs 3 x (all controllers + 2 x networks) bytes"
+-- R16: the room of a tick, by the formula of the rule
 abbrev pub paperNeeds : Manager → ℕ
 paperNeeds m = 3 * (allControllers (networksOf m) + 2 * length (networksOf m))
 

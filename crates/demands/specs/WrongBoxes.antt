@@ -56,19 +56,19 @@ answers = taken (anAnswer 3 1 1) []
 abbrev wants : ℕ → Seen
 wants mode = taken (aRequest mode) []
 
--- a tick that hands out "3 online for each, 6 full, 7 full"
+-- T23: a tick that enters full
 abbrev tellsFull : Seen
 tellsFull = ticks (handed 3 3 0 ∷ handed 6 7 2 ∷ handed 7 7 2 ∷ [])
 
--- a tick that hands out "3 TX offline for each, 6 silent, 7 silent"
+-- T24: a tick that enters silent
 abbrev tellsSilent : Seen
 tellsSilent = ticks (handed 3 3 1 ∷ handed 6 7 1 ∷ handed 7 7 1 ∷ [])
 
--- the tick that enters step 7: "3 TX offline for each controller"
+-- T11: the tick that enters step 7
 abbrev waits : Seen
 waits = ticks (handed 3 3 1 ∷ [])
 
--- a bus-off of controller 3 while up: "8 prefailed, 6 silent, 7 bus-off"
+-- B3: a bus-off of controller 3 while up
 abbrev falls : Seen
 falls = taken aBusOff (handed 8 7 1 ∷ handed 6 7 1 ∷ handed 7 7 3 ∷ [])
 
@@ -86,7 +86,7 @@ module _ where
   unfolding any
   not-running h t r a = let z : true ≡ false = sym (a t 3 refl) ∙ r in (let y : _≡_ {A = ℕ} 0 1 = cc in omega arith)
 
-  -- it keeps the answers over a bus-off: a second one comes after the answer, and full is told without a new one
+  -- E14: it keeps the answers over a bus-off: a second one comes after the answer, and full is told without a new one
   pub answers-kept : Answered network (tellsFull ∷ ticks [] ∷ waits ∷ falls ∷ answers ∷ asks ∷ falls ∷ up) → ⊥
   unfolding any told toldBy since runs
   answers-kept = not-running (tellsFull ∷ ticks [] ∷ waits ∷ falls ∷ answers ∷ asks ∷ falls ∷ up) refl refl
@@ -101,7 +101,7 @@ module _ where
   unfolding any told toldBy since runs
   full-without-an-answer = not-running (tellsFull ∷ asks ∷ wants 2 ∷ []) refl refl
 
-  -- it says full while the controllers are being stopped: 7 no, and no 6 silent
+  -- E16: it says full while the controllers are being stopped: 7 no, and no 6 silent
   pub told-stays-full : Answered network (ticks (handed 7 7 0 ∷ handed 1 3 0 ∷ []) ∷ wants 0 ∷ up) → ⊥
   unfolding any told toldBy since runs
   told-stays-full = not-running (ticks (handed 7 7 0 ∷ handed 1 3 0 ∷ []) ∷ wants 0 ∷ up) refl refl
@@ -118,7 +118,7 @@ module _ where
   unfolding any told toldBy since tally
   full-on-the-tick-before d = let z : 4 ≤ 3 = d refl refl refl refl in omega arith
 
-  -- it takes leaving for silent as the all-clear: the second bus-off since passed, which exceeds the threshold, brings the short delay
+  -- E17: it takes leaving for silent as the all-clear: the second bus-off since passed, which exceeds the threshold, brings the short delay
   pub silent-clears : Delayed network (tellsFull ∷ ticks [] ∷ waits ∷ answers ∷ asks ∷ []) falls
       (tellsFull ∷ wants 2 ∷ tellsSilent ∷ wants 1 ∷ tellsFull ∷ ticks [] ∷ waits ∷ answers ∷ asks ∷ falls ∷ up) → ⊥
   unfolding any told toldBy since tally
@@ -158,7 +158,7 @@ good =
     }
 
 module _ where
-  -- the long delay begins where the count equals the threshold, or it idles after the first tick: on the fourth tick full is not told
+  -- E15: the long delay begins where the count equals the threshold, or it idles after the first tick: on the fourth tick full is not told
   pub not-told : SaidFrom network (Four (ticks [])) falls up → ⊥
   unfolding any told toldBy since tally
   not-told said = let z : _≡_ {A = ℕ} 1 2 = said refl good in omega arith

@@ -1,6 +1,5 @@
--- What an entry does to the settings, from document 01, section "The settings sheet": "tag not allowed here by the order of fields, however
--- many there are (33); value out of range (34); id used before (35); ninth network or fifth controller (36); PN without transceiver (37)".
--- Each definition runs its tests in that order.
+-- What an entry does to the settings: the tests at a field that need the settings so far, and what is stored of it. The rules S19 to S23, with the
+-- ranges of S4 to S9, and S26 of docs/RULES.md. Each definition makes its tests in the order of their rules.
 use Prim.Native.Nat.{ℕ, _+_}
 use mathlib.Core.Bool.{Bool, true, false, cond}
 use lib.Dec.{eqb, leb}
@@ -25,14 +24,14 @@ use Rattle.entries.specs.declared.Filled.{Filled}
 
 -- ---- where a network may begin: field 01, or the end
 
--- a handle, which any byte can be: "id used before (35); ninth network or fifth controller (36)"
+-- S4, S21, S22: a handle, which any byte can be, is refused where it was used before, and then where its network is the ninth
 unfoldable pub opensWith : Settings → ℕ → Opening
 opensWith s handle =
     cond (used (OfNetwork handle) (networksOf s)) (Refuses UsedBefore)
     (cond (leb mostNetworks (s .count)) (Refuses TooMany)
     (Begins handle))
 
--- "tag not allowed here by the order of fields, however many there are (33)": only field 01 or the end is allowed
+-- S19: at the start and after field 06 only field 01 or the end may stand
 unfoldable pub opens : Settings → Entry → Opening
 opens s End = Closes
 opens s (Bad fault) = Refuses fault
@@ -60,7 +59,7 @@ begun handle =
 
 -- ---- the order of fields: 01, then one to four 02, then 03 or none, then 04, 05 and 06
 
--- field 02 comes after 01 or another 02; a fifth one is no fault of the order
+-- S19: field 02 comes after 01 or another 02; a fifth one is no fault of the order
 abbrev pub takesController : Progress → Bool
 takesController Named = true
 takesController Listed = true
@@ -68,7 +67,7 @@ takesController Fitted = false
 takesController Timed = false
 takesController Limited = false
 
--- field 03 comes after a 02, and once at most
+-- S19: field 03 comes after a 02, and once at most
 abbrev pub takesTransceiver : Progress → Bool
 takesTransceiver Named = false
 takesTransceiver Listed = true
@@ -76,7 +75,7 @@ takesTransceiver Fitted = false
 takesTransceiver Timed = false
 takesTransceiver Limited = false
 
--- field 04 comes after a 02 or, with a transceiver, after 03
+-- S19: field 04 comes after a 02 or, with a transceiver, after 03
 abbrev pub takesTimes : Progress → Bool
 takesTimes Named = false
 takesTimes Listed = true
@@ -84,7 +83,7 @@ takesTimes Fitted = true
 takesTimes Timed = false
 takesTimes Limited = false
 
--- field 05 comes after 04 only
+-- S19: field 05 comes after 04 only
 abbrev pub takesThreshold : Progress → Bool
 takesThreshold Named = false
 takesThreshold Listed = false
@@ -92,7 +91,7 @@ takesThreshold Fitted = false
 takesThreshold Timed = true
 takesThreshold Limited = false
 
--- field 06 comes after 05 only, and is the last of its network
+-- S19: field 06 comes after 05 only, and is the last of its network
 abbrev pub takesPartial : Progress → Bool
 takesPartial Named = false
 takesPartial Listed = false
@@ -110,11 +109,11 @@ refusedFor fault n = record { filling = Filling.Refused fault; network = n }
 abbrev pub more : Progress → Network → Filled
 more progress n = record { filling = More progress; network = n }
 
--- the network has all its fields; next is "a sheet or its end"
+-- the network has all its fields; next comes a further network or the end
 abbrev pub whole : Network → Filled
 whole n = record { filling = Whole; network = n }
 
--- the id goes into the first unused slot, so that the slots have the order of the sheet
+-- S14: the id goes into the first unused slot, so that the slots have the order of the sheet
 unfoldable pub addController : Network → ℕ → Network
 addController n id =
     record {
@@ -129,7 +128,7 @@ addController n id =
       partial = n .partial;
     }
 
--- "controller id, 0 to 31; one to four such fields"
+-- S5, S19 to S22: a controller's id is tested for its place, its range, an earlier use in any network, and being the network's fifth
 unfoldable pub onController : Settings → Network → Progress → ℕ → Filled
 onController s n progress id =
     cond (takesController progress)
@@ -140,7 +139,7 @@ onController s n progress id =
     (more Listed (addController n id))))))
     (refusedFor OutOfOrder n)
 
--- field 03 is stored: from here on the network has a transceiver
+-- S6: field 03 is stored; from here on the network has a transceiver
 unfoldable pub addTransceiver : Network → ℕ → Network
 addTransceiver n id =
     record {
@@ -155,7 +154,7 @@ addTransceiver n id =
       partial = n .partial;
     }
 
--- "transceiver id, 0 to 7; may be absent"
+-- S6, S19 to S21: a transceiver's id is tested for its place, its range and an earlier use
 unfoldable pub onTransceiver : Settings → Network → Progress → ℕ → Filled
 onTransceiver s n progress id =
     cond (takesTransceiver progress)
@@ -164,7 +163,7 @@ onTransceiver s n progress id =
     (more Fitted (addTransceiver n id))))
     (refusedFor OutOfOrder n)
 
--- field 04 is stored, in ticks; "L2 may be below L1"
+-- S7: field 04 is stored, in ticks
 unfoldable pub addTimes : Network → ℕ → ℕ → ℕ → Network
 addTimes n short long ensure =
     record {
@@ -179,7 +178,7 @@ addTimes n short long ensure =
       partial = n .partial;
     }
 
--- "short delay L1, long delay L2, ensure time, in ticks, two bytes each, 1 to 65,535"
+-- S7, S11, S19, S20: the three times are tested for their place, and each for being 0; the long delay is not held against the short one
 unfoldable pub onTimes : Network → Progress → ℕ → ℕ → ℕ → Filled
 onTimes n progress short long ensure =
     cond (takesTimes progress)
@@ -189,7 +188,7 @@ onTimes n progress short long ensure =
     (more Timed (addTimes n short long ensure)))))
     (refusedFor OutOfOrder n)
 
--- field 05 is stored: a bus-off count above it brings the long delay
+-- S8: field 05 is stored; a count of bus-offs above it brings the long delay
 unfoldable pub addThreshold : Network → ℕ → Network
 addThreshold n threshold =
     record {
@@ -204,7 +203,7 @@ addThreshold n threshold =
       partial = n .partial;
     }
 
--- "threshold, 0 to 254"
+-- S8, S19, S20: the threshold is tested for its place and its range
 unfoldable pub onThreshold : Network → Progress → ℕ → Filled
 onThreshold n progress threshold =
     cond (takesThreshold progress)
@@ -212,7 +211,7 @@ onThreshold n progress threshold =
     (more Limited (addThreshold n threshold)))
     (refusedFor OutOfOrder n)
 
--- field 06 is stored: with PN the network goes down by steps 9 to 14
+-- S9: field 06 is stored; with partial networking the network goes down by steps 9 to 14
 unfoldable pub addPartial : Network → Bool → Network
 addPartial n partial =
     record {
@@ -227,12 +226,12 @@ addPartial n partial =
       partial = partial;
     }
 
--- field 03 has come: without it PN is refused
+-- S23: field 03 has come; without it partial networking is refused
 abbrev pub present : Transceiver → Bool
 present Absent = false
 present (Present id) = true
 
--- "partial networking (PN), 0 or 1; 1 needs field 03"
+-- S9, S19, S20, S23: partial networking is 0 or 1 in its place, and where it is 1 there has to be a transceiver
 unfoldable pub onPartial : Network → Progress → ℕ → Filled
 onPartial n progress x =
     cond (takesPartial progress)
@@ -242,7 +241,7 @@ onPartial n progress x =
     (refusedFor OutOfRange n)))
     (refusedFor OutOfOrder n)
 
--- what an entry does to an unfinished network; "At the end .. an unfinished one 30"
+-- S19, S26: what an entry does to an unfinished network: neither a further handle nor the end may come in it
 unfoldable pub fills : Settings → Network → Progress → Entry → Filled
 fills s n progress End = refusedFor Cut n
 fills s n progress (Bad fault) = refusedFor fault n

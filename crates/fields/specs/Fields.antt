@@ -1,6 +1,5 @@
--- The layout of fields, from document 01, section "The settings sheet": one byte tag, two bytes length, high byte first, the value.
--- The row of fields that bytes are serves the sheet, the events and every other input of this layout. Which tags there are, and
--- how long their values have to be, is left to those who read the row.
+-- Bytes as a row of fields: the rules S1 and S13 of docs/RULES.md. The row serves the sheet, the events and every other input of this layout. Which
+-- tags there are, and how long their values have to be, is left to those who read the row.
 use Prim.Native.Nat.{ℕ, zero, suc, _+_, _*_, _/_, _%_}
 use mathlib.Core.Path.{_≡_}
 use mathlib.Core.List.{List, [], _∷_, _++_}
@@ -15,19 +14,19 @@ holds zero l = true
 holds (suc n) [] = false
 holds (suc n) (b ∷ l) = holds n l
 
--- a field with its tag, the length as written, and the bytes that follow the length
+-- S1: a field by its tag, the length as written, and the bytes that follow the length: whole where these are enough for its value
 unfoldable pub measured : ℕ → ℕ → ℕ → List ℕ → Field
 measured at tag n v = cond (holds n v) (Whole tag n (at + 3 + n)) (Overrun tag n)
 
--- the field at the front of the unread bytes, which begin at a place
+-- S1: the field at the front of the unread bytes, which begin at a place: a byte of tag, two of length with the high one first, and the value
 unfoldable pub front : ℕ → List ℕ → Field
 front at [] = End
 front at (tag ∷ []) = Stub tag
 front at (tag ∷ high ∷ []) = Stub tag
 front at (tag ∷ high ∷ low ∷ v) = measured at tag (high * 256 + low) v
 
--- "A sheet is a row of fields": each with its place, its tag and its value; the row ends at the end of the bytes, at one or two bytes
--- that are left, or at a field whose value runs past the end
+-- S1: fields in a row, each with its place, its tag and its value; the row ends at the end of the bytes, at one or two bytes that are left, or at a
+-- field whose value runs past the end
 -- (stop: the place; stub: place and tag; overrun: place, tag and the length as written; field: place, tag, value and the rest of the row)
 pub data Row : Type 0 where
   stop : ℕ → Row
@@ -55,7 +54,7 @@ rows k at [] = stop at
 rows (suc k) at (b ∷ l) = rows k (at + 1) l
 rows zero at (b ∷ l) = onto at (front at (b ∷ l)) (drop 2 l) (rows (past (front at (b ∷ l))) (at + 1) l)
 
--- the row of the bytes from a place on
+-- S13: the fields that are not read yet, which are the row of the bytes from a place on
 abbrev pub rowAt : List ℕ → ℕ → Row
 rowAt s at = rows 0 at (drop at s)
 
@@ -66,11 +65,11 @@ nextOf (Stub tag) at = at
 nextOf (Overrun tag n) at = at
 nextOf (Whole tag n next) at = next
 
--- what a reader of one field gives: what it makes of the row that begins at a place, and the place after the field
+-- S13: what a reader of one field gives: what it makes of the row that begins at a place, and the place after the field
 pub record ReadAt {A : Type 0} (make : Row → A) (s : List ℕ) (at : ℕ) (made : A) (next : ℕ) : Type 0 where
   pub what : made ≡ make (rowAt s at)
   pub where-next : next ≡ nextOf (front at (drop at s)) at
 
--- a field as bytes: the tag, the length of its value in two bytes, the value; then what follows it
+-- S1: a field as bytes: its tag, the length of its value in two bytes with the high one first, its value; then what follows it
 abbrev pub fieldBytes : ℕ → List ℕ → List ℕ → List ℕ
 fieldBytes tag v rest = tag ∷ length v / 256 ∷ length v % 256 ∷ (v ++ rest)

@@ -1,4 +1,4 @@
-// A field of lent bytes: one byte tag, two bytes length, the high byte first, and the value.
+// Fields of lent bytes, and a reader that keeps its place among them.
 ghost use mathlib.Core.Path.{_≡_};
 ghost use Prim.Native.Nat.{_+_, _-_, _*_};
 ghost use lib.ListN.{length, drop};
@@ -25,14 +25,14 @@ impl Field {
     pub const NUMBER: usize = 2;
 }
 
-// The number that two bytes are, the high byte first.
+// S1: the number that two bytes are, the high byte first.
 pub fn number(high: u8, low: u8) -> u16
     ensures { λ r. ⌜ r ≡ high * 256 + low ⌝ }
 {
     (high as u16) * Field::BYTE + (low as u16)
 }
 
-// The field at a place of the bytes. Past the last byte there is none.
+// S1: the field at a place of the bytes. Past the last byte there is none.
 pub fn field_at(bytes: &[u8], at: usize) -> Field
     ensures { λ r. ⌜ r ≡ front at (drop at (now (bytes .entry))) ⌝ }
 {
@@ -56,7 +56,7 @@ pub fn field_at(bytes: &[u8], at: usize) -> Field
     }
 }
 
-// A reader goes through the unread fields of the lent bytes and keeps its place.
+// S13: a reader has the bytes that were lent, and the place in them up to which they are read.
 pub struct Reader<'a> {
     pub bytes: &'a [u8],
     pub place: usize,

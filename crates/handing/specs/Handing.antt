@@ -1,4 +1,4 @@
--- What a move hands out, from document 01, section "Tick".
+-- What a move and a bus-off hand out, record by record: the rules S14, H5 to H12, N11, N12, T10, T11, T23 to T25, T27, T28 and B3 of docs/RULES.md.
 use Prim.Native.Nat.{ℕ}
 use mathlib.Core.List.{List, [], _∷_, _++_, map}
 use mathlib.Core.Bool.{Bool, cond}
@@ -31,7 +31,7 @@ errandRecord (Errand.Mode mode) id = transceiverMode id mode
 errandRecord Errand.Clear id = clearWake id
 errandRecord Errand.Check id = checkWake id
 
--- "sends its requests, for controllers to all of the network"
+-- N11, S14: what is handed out for what a step asks for; where it is about controllers, to each of the network, in the order of the sheet
 unfoldable pub requests : Ask → Network → List Record
 requests Ask.Nothing n = []
 requests (Ask.Controllers mode) n = map (roundRecord (Round.Request mode)) (controllersOf n)
@@ -39,48 +39,57 @@ requests (Ask.Transceiver mode) n = map (errandRecord (Errand.Mode mode)) (liste
 requests Ask.ClearWake n = map (errandRecord Errand.Clear) (listed (n .transceiver))
 requests Ask.CheckWake n = map (errandRecord Errand.Check) (listed (n .transceiver))
 
--- "3 .. for each, 6 .., 7 .."
+-- what entering full and entering silent have in common: kind 3 for each controller, then kinds 6 and 7
 unfoldable pub entering : Network → PduMode → Mode → Notice → List Record
 entering n pdu mode notice = map (roundRecord (Round.Pdu pdu)) (controllersOf n) ++ (tells (n .handle) mode ∷ notes (n .handle) notice ∷ [])
 
--- which PDU mode "online" is
+-- the PDU mode of controllers that may send
 abbrev pub online : PduMode
 online = PduMode.Online
 
--- "Enter full: 3 online for each, 6 full, 7 full"
+-- T23: every controller online, and full for the communication manager and for the mode manager
 unfoldable pub enteringFull : Network → List Record
 enteringFull n = entering n online Mode.Full Notice.Full
 
--- "Enter silent: 3 TX offline for each, 6 silent, 7 silent"
+-- T24: every controller TX offline, and silent for the communication manager and for the mode manager
 unfoldable pub enteringSilent : Network → List Record
 enteringSilent n = entering n PduMode.TxOffline Mode.Silent Notice.Silent
 
--- "Go down: 7 no; 6 silent if told full; then the first down step and its requests."
+-- T25, E16: the mode manager hears no, and where full was told the communication manager hears silent, before any controller is stopped
 unfoldable pub downNotices : ℕ → Mode → List Record
 downNotices handle told = notes handle Notice.No ∷ byMode told [] [] (tells handle Mode.Silent ∷ [])
 
--- these notices, then the requests of "its first down step (9 with PN, else 10)"
+-- T25: these notices, then the requests of the first down step, which is 9 with partial networking and else 10
 unfoldable pub goingDown : Network → Mode → List Record
 goingDown n told = downNotices (n .handle) told ++ requests (asksFor (firstDown (n .partial))) n
 
--- what a move hands out
+-- what a move hands out, of a network in a step with a mode told
 unfoldable pub moveRecords : Network → Step → Mode → Move → List Record
 moveRecords n step told Stay = []
+-- N12: all that the step asks for, again
 moveRecords n step told AskAgain = requests (asksFor step) n
+-- a tick that is counted hands out nothing
 moveRecords n step told (Count next) = []
+-- T23: entering full
 moveRecords n step told EnterFull = enteringFull n
+-- T24: entering silent
 moveRecords n step told EnterSilent = enteringSilent n
+-- T10, T27: the all-clear
 moveRecords n step told Pass = reports (n .handle) EventStatus.Passed ∷ []
+-- T11: every controller TX offline
 moveRecords n step told Wait = map (roundRecord (Round.Pdu PduMode.TxOffline)) (controllersOf n)
+-- T25: going down
 moveRecords n step told GoDown = goingDown n told
+-- T28: no for the communication manager, whatever was told before
 moveRecords n step told EnterNoCommunication = tells (n .handle) Mode.No ∷ []
+-- N11: what the step asks for that is entered
 moveRecords n step told (Enter next) = requests (asksFor next) n
 
--- "8 prefailed, 6 silent, 7 bus-off"
+-- B3: prefailed for the event manager, silent for the communication manager, bus-off for the mode manager
 unfoldable pub recovery : ℕ → List Record
 recovery handle = reports handle EventStatus.Prefailed ∷ tells handle Mode.Silent ∷ notes handle Notice.BusOff ∷ []
 
--- "Kinds 1 and 3 name a controller, 2, 4, 5 a transceiver, 6 to 8 a handle": those of a network that a record of a kind can name
+-- H5 to H12: what a record of a kind can name of a network: its controllers, its transceiver, or its handle
 unfoldable pub targetsOf : Network → ℕ → List ℕ
 targetsOf n kind =
     cond (member kind (1 ∷ 3 ∷ [])) (controllersOf n)

@@ -41,7 +41,7 @@ fn round_record(round: Round, id: u8) -> Record
     }
 }
 
-// A record for each controller, in the order of the sheet.
+// S14: a record for each controller, in the order of the sheet.
 fn put_round(out: &mut [u8], k: usize, network: Network, round: Round) -> usize
     requires { ⌜ Room (now out) k (map (roundRecord round) (controllersOf network)) ⌝ }
     ensures { λ r. ⌜ Wrote (now (out .entry)) (now (out .exit)) k r (map (roundRecord round) (controllersOf network)) ⌝ }
@@ -85,7 +85,7 @@ fn put_errand(out: &mut [u8], k: usize, network: Network, errand: Errand) -> usi
 
 // ---- what a move hands out
 
-// The requests of a step, by what it asks for.
+// N11: the requests of a step, by what it asks for.
 fn put_requests(out: &mut [u8], k: usize, network: Network, ask: Ask) -> usize
     requires { ⌜ Room (now out) k (requests ask network) ⌝ }
     ensures { λ r. ⌜ Wrote (now (out .entry)) (now (out .exit)) k r (requests ask network) ⌝ }
@@ -99,7 +99,7 @@ fn put_requests(out: &mut [u8], k: usize, network: Network, ask: Ask) -> usize
     }
 }
 
-// Entering full or silent: the PDU mode of each controller, and what is told.
+// T23, T24: entering full or silent: the PDU mode of each controller, and what is told.
 fn put_entering(
     out: &mut [u8],
     k: usize,
@@ -118,7 +118,7 @@ fn put_entering(
     records::put_record(out, next, noted)
 }
 
-// Going down: 7 no; 6 silent if told full.
+// T25: the notices of going down, which are 7 no and, where full was told, 6 silent.
 fn put_down_notices(out: &mut [u8], k: usize, handle: u8, told: Mode) -> usize
     requires { ⌜ Room (now out) k (downNotices handle told) ⌝ }
     ensures { λ r. ⌜ Wrote (now (out .entry)) (now (out .exit)) k r (downNotices handle told) ⌝ }
@@ -133,7 +133,7 @@ fn put_down_notices(out: &mut [u8], k: usize, handle: u8, told: Mode) -> usize
     }
 }
 
-// Going down: the notices, and the requests of the first down step.
+// T25: going down: the notices, and the requests of the first down step.
 fn put_down(out: &mut [u8], k: usize, network: Network, told: Mode) -> usize
     requires { ⌜ Room (now out) k (goingDown network told) ⌝ }
     ensures { λ r. ⌜ Wrote (now (out .entry)) (now (out .exit)) k r (goingDown network told) ⌝ }
@@ -189,7 +189,7 @@ pub fn put_move(
     }
 }
 
-// The records of a recovery that begins.
+// B3: the records of a recovery that begins.
 pub fn put_recovery(out: &mut [u8], handle: u8) -> usize
     requires { ⌜ Room (now out) 0 (recovery handle) ⌝ }
     ensures { λ r. ⌜ Wrote (now (out .entry)) (now (out .exit)) 0 r (recovery handle) ⌝ }

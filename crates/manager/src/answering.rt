@@ -10,7 +10,7 @@ ghost use mathlib.Core.Path.{_≡_};
 ghost use Rattle.network.specs.Parts.{aReport};
 ghost use Rattle.slots.specs.Calls as calls;
 
-// A controller answers the request for a mode: ok (1) or not (0).
+// A1: a controller answers the request for a mode with ok (1) or not (0).
 pub fn controller_answer(manager: Manager, id: u8, mode: u8, ok: u8) -> Outcome
     ensures { λ r. ⌜ r ≡ calls.outcome manager (calls.answer id mode ok) ⌝ }
 {
@@ -44,21 +44,21 @@ fn take_report(manager: Manager, id: u8, report: Report) -> Outcome
     }
 }
 
-// A transceiver reports its mode.
+// A3: a transceiver reports its mode.
 pub fn transceiver_mode(manager: Manager, id: u8, mode: u8) -> Outcome
     ensures { λ r. ⌜ r ≡ calls.outcome manager (calls.transceiverMode id mode) ⌝ }
 {
     take_report(manager, id, Report::Transceiver(mode))
 }
 
-// The wake flag of a transceiver was cleared.
+// A4: the wake flag of a transceiver was cleared.
 pub fn clear_done(manager: Manager, id: u8) -> Outcome
     ensures { λ r. ⌜ r ≡ calls.outcome manager (calls.clearDone id) ⌝ }
 {
     take_report(manager, id, Report::Cleared)
 }
 
-// The wake flag of a transceiver was checked.
+// A5: the wake flag of a transceiver was checked.
 pub fn check_done(manager: Manager, id: u8) -> Outcome
     ensures { λ r. ⌜ r ≡ calls.outcome manager (calls.checkDone id) ⌝ }
 {

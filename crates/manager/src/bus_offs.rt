@@ -34,7 +34,7 @@ fn bus_off_started(manager: Manager, id: u8, out: &mut [u8]) -> Outcome
     }
 }
 
-// A controller has gone bus-off.
+// R7, R9, R17, B1: a controller has gone bus-off; 9 bytes are needed, whatever the step hands out.
 pub fn bus_off(manager: Manager, id: u8, out: &mut [u8]) -> Outcome
     ensures { λ r. ⌜ calls.Gives manager (calls.busOff id (length (now (out .entry)))) (now (out .entry)) r (now (out .exit)) ⌝ }
 {

@@ -39,7 +39,7 @@ fn poll_at(manager: Manager, at: usize) -> Outcome
     }
 }
 
-// The mode that was last told of the network with this handle.
+// N6: the mode that was last told of the network with this handle.
 pub fn poll(manager: Manager, handle: u8) -> Outcome
     ensures { λ r. ⌜ r ≡ calls.outcome manager (calls.poll handle) ⌝ }
 {

@@ -28,6 +28,7 @@ pub fn new() -> Manager
     }
 }
 
+// R19: a manager with these settings, whatever it had before.
 fn load(settings: Settings) -> Manager
     ensures { λ r. ⌜ r ≡ calls.loaded settings ⌝ }
 {
@@ -41,7 +42,7 @@ fn load(settings: Settings) -> Manager
     }
 }
 
-// What a reading of a sheet gives.
+// R3 to R5: what a reading of a sheet gives.
 fn after_reading(manager: Manager, reading: Reading) -> Outcome
     ensures { λ r. ⌜ r ≡ calls.afterReading manager reading (reading .answer) ⌝ }
 {
@@ -65,7 +66,7 @@ fn after_reading(manager: Manager, reading: Reading) -> Outcome
     }
 }
 
-// Reads a sheet. Reading again before the start replaces it; a refused reading keeps the old one.
+// R8, R19, R20: reads a sheet. Until the start that may be done again, and a refused reading leaves the former sheet in force.
 pub fn read(manager: Manager, bytes: &[u8]) -> Outcome
     ensures { λ r. ⌜ r ≡ calls.outcome manager (calls.read (now (bytes .entry))) ⌝ }
 {
@@ -105,7 +106,7 @@ fn write_sheet(manager: Manager, buffer: &mut [u8]) -> Outcome
     after_writing(manager, answer)
 }
 
-// Writes the sheet into a lent buffer, before and after the start.
+// R7, R18, H4: writes the sheet into a lent buffer, before and after the start.
 pub fn write(manager: Manager, buffer: &mut [u8]) -> Outcome
     ensures { λ r. ⌜ calls.Writes manager (now (buffer .entry)) r (now (buffer .exit)) ⌝ }
 {
@@ -117,7 +118,7 @@ pub fn write(manager: Manager, buffer: &mut [u8]) -> Outcome
     }
 }
 
-// Every network in its first down step.
+// N7, N8: every network in its first down step.
 fn start_networks(manager: Manager) -> Manager
     ensures { λ r. ⌜ r ≡ calls.startedFrom manager ⌝ }
 {
@@ -139,7 +140,7 @@ fn start_networks(manager: Manager) -> Manager
     }
 }
 
-// Starts the manager.
+// R7, R8, N9: starts the manager, and hands out nothing.
 pub fn start(manager: Manager) -> Outcome
     ensures { λ r. ⌜ r ≡ calls.outcome manager calls.start ⌝ }
 {

@@ -1,4 +1,4 @@
-// The tick of the manager: every network in sheet order.
+// The tick of the manager: every network in the order of the sheet.
 use settings::Settings;
 use slots::Answer;
 use slots::Gate;
@@ -13,7 +13,7 @@ ghost use lib.ListN.{length};
 ghost use Rattle.slots.specs.Manager.{networksOf, tickNeeds, allRecords};
 ghost use Rattle.slots.specs.Calls as calls;
 
-// Every network ticks, in sheet order. One that rests stays as it is.
+// T1, H2: every network ticks, in the order of the sheet. One that rests stays as it is.
 fn tick_networks(manager: Manager, out: &mut [u8]) -> Outcome
     requires { ⌜ tickNeeds manager ≤ length (now out) ⌝ }
     ensures { λ r. ⌜ (r ≡ calls.allTicked manager)
@@ -50,7 +50,7 @@ fn tick_networks(manager: Manager, out: &mut [u8]) -> Outcome
     }
 }
 
-// A tick of the manager.
+// R7, R9, R16: a tick of the manager, where it is started and the lent buffer has the room.
 pub fn tick(manager: Manager, out: &mut [u8]) -> Outcome
     ensures { λ r. ⌜ calls.Gives manager (calls.tick (length (now (out .entry)))) (now (out .entry)) r (now (out .exit)) ⌝ }
 {

@@ -1,4 +1,4 @@
--- A refused call changes no record and no lent byte, and a call that names one network's ids changes no other network's record.
+-- R2, R3, N16: a refused call changes no record and no lent byte, and a call that names an id changes the record of one network at most.
 use Rattle.lists.proofs.Basics.{ℕ, arith, _≡_, refl, sym, ap, _∙_, List, Bool, true, false, true≢false, leb, length, getD-set-other}
 use Rattle.records.specs.declared.Record.{Record}
 use Rattle.records.specs.Records.{bytes}

@@ -1,4 +1,4 @@
--- A tick needs what document 01 says: 3 x (all controllers + 2 x networks) bytes.
+-- R16: a tick needs three bytes for each controller of all networks, and six for each network.
 use Rattle.lists.proofs.Basics.{_+_, _*_, _≤_, arith, _≡_, refl, List, [], _∷_, length, length-take}
 use Rattle.lists.proofs.Parts.{padded-length}
 use Rattle.settings.specs.declared.Network.{Network}

@@ -1,4 +1,4 @@
--- For every call: two outcomes that meet its statement are equal, and so is every byte of the lent buffer. There is no exception.
+-- K8: for every call two outcomes that meet its statement are equal, and so is every byte of the lent buffer. There is no exception.
 use Rattle.lists.proofs.Basics.{_≡_, sym, _∙_, List, ℕ}
 use Rattle.slots.specs.declared.Manager.{Manager}
 use Rattle.slots.specs.declared.Outcome.{Outcome}

@@ -55,8 +55,7 @@ module _ (m : Manager) where
       each-at f (networksOf m) (m .states) i blankNetwork blankState h (slot-state e g i h)
       ∙ ap (λ (n : Network). f n (stateAt m i)) (slot-network m i h)
 
-  -- "a tick changes each network by its own rules only": an accepted tick gives each network in use the record after its own tick, and leaves the
-  -- rest
+  -- T1: an accepted tick gives each network in use the record after its own tick, and leaves the rest
   pub tick-own-rules : Sound m → (room : ℕ) → m .stage ≡ Stage.Started → ltb room (tickNeeds m) ≡ false → (i : ℕ) → i < length (networksOf m)
       → stateAt (outcome m (tick room) .manager) i ≡ tickState (networkAt m i) (stateAt m i)
   unfolding outcome gateOf allTicked tickState

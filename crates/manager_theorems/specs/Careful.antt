@@ -1,5 +1,5 @@
--- What every call keeps: a refusal changes nothing, a call that names one network's ids changes no other network's record, and what holds of
--- every manager from `new` on.
+-- What every call keeps: a refusal changes nothing, a call that names an id leaves the other networks alone, and what holds of every manager from
+-- `new` on. The rules R2, R3 and N16 of docs/RULES.md.
 use Prim.Native.Nat.{ℕ, _<_, _+_}
 use mathlib.Core.Path.{_≡_}
 use mathlib.Core.List.{List, [], _∷_}
@@ -17,18 +17,18 @@ use Rattle.slots.specs.declared.Outcome.{Outcome}
 use Rattle.slots.specs.Manager.{networksOf, settingsOf, networkAt, stateAt}
 use Rattle.calls.specs.Histories.{isAccepted}
 
--- "A refusal leaves all records .. alone"; "Beside a refusal every count and a polled mode are 0"; nothing is handed out
+-- R2, R3: the manager is as it was, the count and the polled mode are 0, and nothing is handed out
 pub record Refuses (m : Manager) (o : Outcome) (rs : List Record) : Type 0 where
   pub manager : o .manager ≡ m
   pub count : o .count ≡ 0
   pub mode : o .mode ≡ 0
   pub records : rs ≡ []
 
--- whichever refusal is the answer
+-- R2, R3: that is so whichever refusal is the answer
 abbrev pub Careful : Manager → Outcome → List Record → Type 0
 Careful m o rs = isAccepted (o .answer) ≡ false → Refuses m o rs
 
--- "A call naming one network's ids changes no other network's record": the settings stay, and so does the record of every other slot
+-- N16: the settings stay, and so does the record of every slot but the one that was named
 pub record LeavesOthers (m : Manager) (slot : Slot) (o : Outcome) : Type 0 where
   pub networks : o .manager .networks ≡ m .networks
   pub count : o .manager .count ≡ m .count

@@ -1,5 +1,5 @@
--- Answers and reports, from document 01, section "Answers": "A controller answer .. is taken in a controller step that has asked for just that
--- mode. A transceiver mode .. likewise in 1 and 11. Clear done in 9, check done in 13 and 14, once asked. Else 22."
+-- Answers of controllers and reports of the transceiver: which of them a step takes, and the record after it. The rules N3 and A1 to A5 of
+-- docs/RULES.md.
 use Prim.Native.Nat.{ℕ}
 use mathlib.Core.List.{List}
 use mathlib.Core.Bool.{Bool, true, false, cond}
@@ -17,7 +17,7 @@ use Rattle.network.specs.declared.Report.{Report}
 use Rattle.network.specs.declared.State.{State}
 use Rattle.network.specs.State.{heard}
 
--- just this is asked for
+-- A2 to A5: a step awaits what it asks for: of controllers and transceiver that very mode, of the wake flag that it was cleared or was checked
 abbrev pub awaits : Ask → Report → Bool
 awaits Ask.Nothing report = false
 awaits (Ask.Controllers asked) (Report.Controller mode) = eqb (controllerNumber asked) mode
@@ -37,11 +37,11 @@ awaits Ask.CheckWake (Report.Transceiver mode) = false
 awaits Ask.CheckWake Report.Cleared = false
 awaits Ask.CheckWake Report.Checked = true
 
--- a step that has not asked takes nothing: "a started answer between bus-off and next tick: 22"
+-- A2 to A5: a step takes what it awaits once it has asked; so nothing is taken between a bus-off and the next tick (E10)
 unfoldable pub takesReport : State → Report → Bool
 takesReport s report = cond (s .asked) (awaits (asksFor (s .step)) report) false
 
--- "ok 0 or 1": 1, here true, is ok; 0 is a refusal
+-- A1: 1, here true, is ok, and 0 is a refusal
 abbrev pub answerOf : Bool → LastAnswer
 answerOf ok = cond ok LastAnswer.Okay LastAnswer.Refused
 
@@ -50,14 +50,14 @@ abbrev pub withAnswers : State → List Heard → State
 withAnswers s answers =
     record { step = s .step; wanted = s .wanted; told = s .told; count = s .count; asked = s .asked; answers = answers; reported = s .reported }
 
--- "each controller's last answer in this step": the controller's slot holds its latest answer
+-- N3, A2: the controller's slot holds its latest answer, which takes the place of an earlier one
 unfoldable pub afterAnswer : Network → State → ℕ → Bool → State
 afterAnswer n s id ok =
     cond (member id (controllersOf n))
     (withAnswers s (set (s .answers) (first (λ (x : ℕ). eqb x id) (controllersOf n)) (heard (answerOf ok))))
     s
 
--- "whether its transceiver, clear or check report has come"
+-- N3: the report of transceiver, clearing or checking has come
 unfoldable pub afterReport : State → State
 afterReport s =
     record { step = s .step; wanted = s .wanted; told = s .told; count = s .count; asked = s .asked; answers = s .answers; reported = true }

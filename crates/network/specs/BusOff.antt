@@ -1,5 +1,5 @@
--- A bus-off, from document 01, section "Bus-off": "In 4 to 8: count up by one, staying at 255; 8 prefailed, 6 silent, 7 bus-off; step 6, not
--- asked, answers forgotten. In 3: not asked, answers forgotten, nothing handed out. Elsewhere 22."
+-- A bus-off of one of the network's controllers: what it does in a step, the record after it, and what it hands out. The rules B2 to B6 of
+-- docs/RULES.md.
 use Prim.Native.Nat.{ℕ, _+_}
 use mathlib.Core.List.{List, []}
 use mathlib.Core.Bool.{Bool, false, cond}
@@ -15,30 +15,30 @@ use Rattle.network.specs.declared.Hit.{Hit}
 use Rattle.network.specs.declared.State.{State}
 use Rattle.network.specs.State.{blankAnswers}
 
--- "In 4 to 8" recovery begins; "In 3" the controllers are asked anew; "Elsewhere 22"
+-- B4 to B6: in steps 4 to 8 a recovery begins, in step 3 the controllers are asked anew, in any other step it is not taken
 unfoldable pub hitOf : Step → Hit
 hitOf step = cond (isUp step) Hit.Recover (cond (asksToStart (asksFor step)) Hit.Restart Hit.NotTaken)
 
--- "count up by one, staying at 255"
+-- B2: one more, up to 255 where it stays
 abbrev pub raised : ℕ → ℕ
 raised count = cond (ltb count 255) (count + 1) count
 
--- the count after a bus-off taken in a step: each counts
+-- B2: the count after a bus-off that was taken in a step from 4 to 8: each counts
 abbrev pub countedIn : Step → ℕ → ℕ
 countedIn step count = raised count
 
--- "not asked, answers forgotten"
+-- B4, B5: the step has not asked, and the answers are forgotten
 unfoldable pub madeAnew : State → Step → Mode → ℕ → State
 madeAnew s step told count =
     record { step = step; wanted = s .wanted; told = told; count = count; asked = false; answers = blankAnswers; reported = false }
 
--- recovery: step 6, told silent, count up; in step 3 the step, the told mode and the count stay; where it is not taken all stays
+-- B2 to B5: a recovery is step 6 with silent told and one bus-off more; in step 3 the step, the told mode and the count stay; not taken, all stays
 unfoldable pub afterHit : State → Hit → State
 afterHit s Hit.Recover = madeAnew s Restarting Mode.Silent (countedIn (s .step) (s .count))
 afterHit s Hit.Restart = madeAnew s (s .step) (s .told) (s .count)
 afterHit s Hit.NotTaken = s
 
--- the three records of recovery; in step 3 "nothing handed out", nor where it is not taken
+-- B3, B5: the three records of a recovery; none in step 3, nor where it is not taken
 unfoldable pub hitRecords : Network → Hit → List Record
 hitRecords n Hit.Recover = recovery (n .handle)
 hitRecords n Hit.Restart = []

@@ -1,4 +1,4 @@
--- The record of a network after a move, from document 01, sections "Asking steps" and "Tick".
+-- The record of a network after a move and after a tick, and what a tick hands out. The rules N11, N12, T1, T10, T23 to T25 and T28 of docs/RULES.md.
 use Prim.Native.Nat.{ℕ}
 use mathlib.Core.List.{List}
 use mathlib.Core.Bool.{Bool, true, false, cond}
@@ -13,13 +13,13 @@ use Rattle.network.specs.declared.State.{State}
 use Rattle.network.specs.State.{blankAnswers}
 use Rattle.network.specs.Rules.{moveOf}
 
--- "Go down: .. 6 silent if told full"
+-- T25: going down tells silent where full was told
 abbrev pub lowered : Mode → Mode
 lowered Mode.No = Mode.No
 lowered Mode.Silent = Mode.Silent
 lowered Mode.Full = Mode.Silent
 
--- the mode last told by kind 6: "Enter full: .. 6 full", "Enter silent: .. 6 silent", "Enter 0: 6 no"
+-- T23 to T25, T28: the mode that kind 6 last told, after a move
 abbrev pub toldAfter : Move → Mode → Mode
 toldAfter Stay told = told
 toldAfter AskAgain told = told
@@ -32,7 +32,7 @@ toldAfter GoDown told = lowered told
 toldAfter EnterNoCommunication told = Mode.No
 toldAfter (Enter next) told = told
 
--- "at the ensure time: 8 passed, count 0": "only passed does"
+-- T10: the bus-offs count from 0 after passed, and after no other move
 abbrev pub countAfter : Move → ℕ → ℕ
 countAfter Stay count = count
 countAfter AskAgain count = count
@@ -45,7 +45,7 @@ countAfter GoDown count = count
 countAfter EnterNoCommunication count = count
 countAfter (Enter next) count = count
 
--- "Entering one by a tick .. counts as asked. A later tick .. sends them all again and sets asked"
+-- N11, N12: a step that is entered in order to ask has asked, and so has one that asks again
 abbrev pub asksAfter : Move → Bool → Bool
 asksAfter Stay asked = asked
 asksAfter AskAgain asked = true
@@ -58,7 +58,7 @@ asksAfter GoDown asked = true
 asksAfter EnterNoCommunication asked = false
 asksAfter (Enter next) asked = true
 
--- "Entering one by a tick forgets answers"; "what is already answered stays"
+-- N11, N12: the answers are forgotten where another step is entered, and kept where the step stays or asks again
 abbrev pub keepsAnswers : Move → Bool
 keepsAnswers Stay = true
 keepsAnswers AskAgain = true
@@ -84,10 +84,10 @@ afterMove n s m =
       reported = cond (keepsAnswers m) (s .reported) false;
     }
 
--- the record after a tick
+-- T1: the record after a tick, which makes one move
 unfoldable pub tickState : Network → State → State
 tickState n s = afterMove n s (moveOf n s)
 
--- what a tick hands out
+-- T1: what a tick hands out: the records of that move
 unfoldable pub tickRecords : Network → State → List Record
 tickRecords n s = moveRecords n (s .step) (s .told) (moveOf n s)

@@ -1,6 +1,5 @@
 -- What one network makes of a call: its reply, its record after the call, and the records that it hands out. The manager's outcome of a call that
--- names an
--- id is this part of the network that has it.
+-- names an id is this part of the network that has it. The rules R2, R13 to R15, N14, B6, A1 and A3 to A6 of docs/RULES.md.
 use Prim.Native.Nat.{ℕ}
 use mathlib.Core.List.{List, []}
 use mathlib.Core.Bool.{Bool, true, false, cond}
@@ -19,8 +18,7 @@ use Rattle.network.specs.Answers.{takesReport, afterAnswer, afterReport}
 use Rattle.network.specs.BusOff.{hitOf, afterHit, hitRecords}
 
 -- what a call is to one network: a tick, a bus-off of one of its controllers, an answer of one, a request for it, a report of its transceiver, or
--- nothing
--- of its own
+-- nothing of its own
 pub data Sight : Type 0 where
   aTick : Sight
   aBusOff : Sight
@@ -40,48 +38,48 @@ isTaken Reply.NotTaken = false
 abbrev pub taken : State → Part
 taken s = record { reply = Reply.Taken; state = s }
 
--- refused: the record stays as it was
+-- R2: refused, the record stays as it was
 abbrev pub declined : State → Reply → Part
 declined s reply = record { reply = reply; state = s }
 
--- a request for one of the three modes: it is stored, or refused with 08
+-- N14, R14: a request for one of the three modes is stored, or refused with 08
 unfoldable pub wantedPart : State → Mode → Part
 wantedPart s mode = cond (mayWant (s .step) mode) (taken (wants s mode)) (declined s Reply.NotUp)
 
--- a request with the mode as a number: 21 where it is none of the three
+-- R13: a request with the mode as a number, refused with 21 where it is none of the three
 unfoldable pub requestPart : State → ℕ → Part
 requestPart s mode =
     cond (eqb mode 0) (wantedPart s Mode.No)
     (cond (eqb mode 1) (wantedPart s Mode.Silent) (cond (eqb mode 2) (wantedPart s Mode.Full) (declined s Reply.OutOfRange)))
 
--- a mode that is reported and is none of 0 to 2
+-- R13, A1, A3: a mode that is reported and is none of 0 to 2
 abbrev pub outOfRange : Report → Bool
 outOfRange (Report.Controller mode) = ltb 2 mode
 outOfRange (Report.Transceiver mode) = ltb 2 mode
 outOfRange Report.Cleared = false
 outOfRange Report.Checked = false
 
--- what is reported: 21 for a mode out of its range; where the step takes it, the record is `after`; else 22
+-- R13, R15, A6: 21 for a mode that is reported out of range; where the step takes the report the record is `after`; all else is refused with 22
 unfoldable pub takenPart : State → Report → State → Part
 takenPart s report after =
     cond (outOfRange report) (declined s Reply.OutOfRange) (cond (takesReport s report) (taken after) (declined s Reply.NotTaken))
 
--- a report of the transceiver
+-- A3 to A5: a report of the transceiver
 unfoldable pub reportPart : State → Report → Part
 reportPart s report = takenPart s report (afterReport s)
 
--- an answer of a controller: 21 for an ok value above 1 too
+-- R13, A1: an answer of a controller, refused with 21 for an ok value above 1 too
 unfoldable pub answerPart : Network → State → ℕ → ℕ → ℕ → Part
 answerPart n s controller mode ok =
     cond (ltb 1 ok) (declined s Reply.OutOfRange) (takenPart s (Report.Controller mode) (afterAnswer n s controller (eqb ok 1)))
 
--- a bus-off, by what it does to the step
+-- R15, B6: a bus-off that the step does not take is refused with 22
 abbrev pub hitReply : Hit → Reply
 hitReply Hit.Recover = Reply.Taken
 hitReply Hit.Restart = Reply.Taken
 hitReply Hit.NotTaken = Reply.NotTaken
 
--- and the record after it
+-- the reply to a bus-off and the record after it
 unfoldable pub hitPart : State → Hit → Part
 hitPart s hit = record { reply = hitReply hit; state = afterHit s hit }
 

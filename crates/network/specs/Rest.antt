@@ -1,5 +1,5 @@
--- Which networks rest. This is no rule of document 01 but a shortcut of the code: the tick of such a network changes nothing and hands out
--- nothing, whatever its settings, its answers and its timer are (`resting-stays`, `resting-hands-out-nothing`).
+-- Which networks rest. This is no rule of the product but a shortcut of the code: the tick of such a network changes nothing and hands out nothing,
+-- whatever its settings, its answers and its timer are (`resting-stays`, `resting-hands-out-nothing`).
 use mathlib.Core.Bool.{Bool, false, true}
 use Rattle.records.specs.declared.Mode.{Mode}
 use Rattle.steps.specs.declared.Step.{Step}

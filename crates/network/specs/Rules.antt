@@ -1,4 +1,5 @@
--- The conditions of the tick's decision, from document 01, section "The fifteen steps".
+-- The conditions of the tick's decision: whether the step is done, whether an answer is a refusal, whether the timer is reached, and the outfit. The
+-- rules N13, T1, T10, T13 and T19 of docs/RULES.md.
 use Prim.Native.Nat.{ℕ, _+_}
 use mathlib.Core.List.{List}
 use mathlib.Core.Bool.{Bool, true, false, cond}
@@ -33,11 +34,11 @@ refusal LastAnswer.Refused = true
 abbrev pub isOkay : Heard → Bool
 isOkay h = okay (h .answer)
 
--- the slot of a controller holds a refusal: step 12 with PN looks for one
+-- the slot of a controller holds a refusal: step 12 with partial networking looks for one
 abbrev pub isRefusal : Heard → Bool
 isRefusal h = refusal (h .answer)
 
--- "every controller's last answer ok; or the transceiver reported the asked mode; or the clear or check was reported"
+-- N13: what was asked for is there: of controllers the last answer of each is ok; of all else the report has come
 abbrev pub doneBy : Ask → List Heard → Bool → Bool
 doneBy Ask.Nothing hs reported = false
 doneBy (Ask.Controllers mode) hs reported = every isOkay hs
@@ -45,30 +46,30 @@ doneBy (Ask.Transceiver mode) hs reported = reported
 doneBy Ask.ClearWake hs reported = reported
 doneBy Ask.CheckWake hs reported = reported
 
--- "Done means: asked, and .."
+-- N13: a step is done that has asked, and what it asked for is there
 unfoldable pub isDone : Network → State → Bool
 isDone n s = cond (s .asked) (doneBy (asksFor (s .step)) (heardOf n s) (s .reported)) false
 
--- "L2 (count above threshold) or L1 (otherwise)"
+-- T13: the long delay where the count is above the threshold
 abbrev pub isLong : ℕ → ℕ → Bool
 isLong threshold count = ltb threshold count
 
--- how long step 7 waits at a bus-off count, in ticks
+-- T13: how long step 7 waits at a bus-off count, in ticks: the long delay or else the short one
 unfoldable pub delayOf : Network → ℕ → ℕ
 delayOf n count = cond (isLong (n .threshold) count) (n .long) (n .short)
 
--- "the tick count rises by one; when it reaches" its time
+-- T10, T13: with this tick the number of ticks reaches its time, in step 4 the ensure time and in step 7 the delay
 abbrev pub reachedBy : Timer → ℕ → ℕ → Bool
 reachedBy Timer.Idle ensure delay = false
 reachedBy (Timer.Ensure ticks) ensure delay = leb ensure (ticks + 1)
 reachedBy (Timer.Delay ticks) ensure delay = leb delay (ticks + 1)
 
--- no transceiver, a transceiver, a transceiver with PN
+-- no transceiver, a transceiver, a transceiver with partial networking
 abbrev pub outfitOf : Transceiver → Bool → Outfit
 outfitOf Transceiver.Absent partial = Outfit.Bare
 outfitOf (Transceiver.Present id) partial = cond partial Outfit.Partial Outfit.Fitted
 
--- what a tick does with a network: "some controller's last answer is a refusal" is the refusal present
+-- T1, T19: the one move that a tick makes; the last answer of some controller being a refusal is one of its conditions
 unfoldable pub moveOf : Network → State → Move
 moveOf n s =
     decision (s .step) (s .wanted) (isDone n s) (any isRefusal (heardOf n s))

@@ -1,5 +1,5 @@
--- The record of a network, from document 01, section "The fifteen steps", at the start and after a request.
--- A record has one form: in a step that asks nothing, asked is no and nothing is kept as answered; unused slots are pending.
+-- The record of a network: at the start, and after a request. A record has one form: in a step that asks nothing, asked is no and nothing is kept as
+-- answered; unused slots are pending. The rules N3, N7, N8, N14, N15 and R14 of docs/RULES.md.
 use mathlib.Core.List.{List}
 use mathlib.Core.Bool.{Bool, true, false}
 use lib.ListN.{take, replicate}
@@ -22,20 +22,20 @@ heard answer = record { answer = answer }
 abbrev pub blankAnswers : List Heard
 blankAnswers = replicate mostControllers (heard LastAnswer.Pending)
 
--- the last answers of the network's controllers, in the order of the sheet
+-- N3: the last answers of the network's controllers, in the order of the sheet
 abbrev pub heardOf : Network → State → List Heard
 heardOf n s = take (n .count) (s .answers)
 
--- "Start puts each network in its first down step (9 with PN, else 10), not asked, wanted and told mode no, count 0"
+-- N7, N8: at the start the first down step, which has not asked; no is wanted and counts as told, and there was no bus-off
 unfoldable pub started : Network → State
 started n =
     record { step = firstDown (n .partial); wanted = Mode.No; told = Mode.No; count = 0; asked = false; answers = blankAnswers; reported = false }
 
--- "Request stores the wanted mode, nothing else"
+-- N14: the wanted mode is the one requested, and all else stays
 unfoldable pub wants : State → Mode → State
 wants s mode =
     record { step = s .step; wanted = mode; told = s .told; count = s .count; asked = s .asked; answers = s .answers; reported = s .reported }
 
--- 08: "silent asked for in a step other than 4 to 8"
+-- N15, R14: silent may be asked for in steps 4 to 8 alone, no and full in every step, also during a recovery
 abbrev pub mayWant : Step → Mode → Bool
 mayWant step mode = byMode mode true (isUp step) true

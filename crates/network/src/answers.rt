@@ -8,7 +8,7 @@ use steps::Ask;
 ghost use mathlib.Core.Path.{_≡_};
 ghost use Rattle.network.specs.Answers.{awaits, takesReport, answerOf, afterAnswer, afterReport};
 
-// Just this is what the step asks for.
+// A2 to A5: this is just what the step asks for.
 fn is_awaited(ask: Ask, report: Report) -> bool
     ensures { λ r. ⌜ r ≡ awaits ask report ⌝ }
 {
@@ -41,7 +41,7 @@ fn is_awaited(ask: Ask, report: Report) -> bool
     }
 }
 
-// The step takes this: it has asked for just this.
+// A2 to A5: the step has asked, and takes what it asks for.
 pub fn takes(state: State, report: Report) -> bool
     ensures { λ r. ⌜ r ≡ takesReport state report ⌝ }
 {
@@ -53,6 +53,7 @@ pub fn takes(state: State, report: Report) -> bool
     false
 }
 
+// A1: ok, or a refusal.
 fn answer_of(ok: bool) -> LastAnswer
     ensures { λ r. ⌜ r ≡ answerOf ok ⌝ }
 {
@@ -63,7 +64,7 @@ fn answer_of(ok: bool) -> LastAnswer
     }
 }
 
-// The record with this answer of the controller.
+// N3, A2: the record with this answer of the controller, in place of an earlier one.
 pub fn with_answer(network: Network, state: State, id: u8, ok: bool) -> State
     ensures { λ r. ⌜ r ≡ afterAnswer network state id ok ⌝ }
 {
@@ -84,7 +85,7 @@ pub fn with_answer(network: Network, state: State, id: u8, ok: bool) -> State
     state
 }
 
-// The record with the report that was asked for.
+// N3: the record with the report that was asked for.
 pub fn with_report(state: State) -> State
     ensures { λ r. ⌜ r ≡ afterReport state ⌝ }
 {

@@ -13,7 +13,7 @@ ghost use Rattle.records.specs.Wrote.{Room, Wrote};
 ghost use Rattle.network.specs.BusOff.{hitOf, raised, countedIn, madeAnew, hitRecords};
 ghost use Rattle.network.specs.Parts.{hitPart};
 
-// In an up step recovery begins; in step 3, which asks the controllers to start, the step begins anew.
+// B4 to B6: in an up step recovery begins; in step 3, which asks the controllers to start, the step begins anew.
 fn hit_of(step: Step) -> Hit
     ensures { λ r. ⌜ r ≡ hitOf step ⌝ }
 {
@@ -27,7 +27,7 @@ fn hit_of(step: Step) -> Hit
     Hit::NotTaken
 }
 
-// One bus-off more, staying at the most.
+// B2: one bus-off more, staying at the most.
 fn raise(count: u8) -> u8
     ensures { λ r. ⌜ r ≡ raised count ⌝ }
 {
@@ -37,14 +37,14 @@ fn raise(count: u8) -> u8
     count
 }
 
-// The count after a bus-off that was taken in a step: each counts.
+// B2: the count after a bus-off that was taken in a step from 4 to 8: each counts.
 fn count_in(_step: Step, count: u8) -> u8
     ensures { λ r. ⌜ r ≡ countedIn «_step» count ⌝ }
 {
     raise(count)
 }
 
-// Not asked, answers forgotten.
+// B4, B5: the step has not asked, and the answers are forgotten.
 fn anew(state: State, step: Step, told: Mode, count: u8) -> State
     ensures { λ r. ⌜ r ≡ madeAnew state step told count ⌝ }
 {

@@ -18,7 +18,7 @@ use steps::Step;
 pub use ticking::rests;
 pub use ticking::tick;
 
-// A controller's last answer in this step.
+// N3, K2: a controller's last answer in this step.
 pub enum LastAnswer {
     Pending,
     Okay,
@@ -29,10 +29,10 @@ pub struct Heard {
     pub answer: LastAnswer,
 }
 
-// The record of a network. The settings stand apart from it.
+// N3, K2: the record of a network. The settings stand apart from it.
 pub struct State {
     pub step: Step,
-    // The wanted mode, and the mode last told to the communication manager.
+    // The wanted mode, and the one that the communication manager was last told.
     pub wanted: Mode,
     pub told: Mode,
     // The bus-offs since the last all-clear; it stays at 255.
@@ -59,11 +59,11 @@ pub enum Hit {
 // What a network replies to a call that names it.
 pub enum Reply {
     Taken,
-    // 21: a mode or ok value out of its range.
+    // R13: 21, for a mode above 2 or an ok value above 1.
     OutOfRange,
-    // 08: silent asked for in a step that is not up.
+    // R14: 08, for silent asked for where the network is not up.
     NotUp,
-    // 22: an answer or bus-off that the step does not take.
+    // R15: 22, for an answer, a report or a bus-off that the step does not take.
     NotTaken,
 }
 
@@ -105,7 +105,7 @@ impl Part {
         }
     }
 
-    // Refused: the record stays as it was.
+    // R2: refused, the record stays as it was.
     pub fn decline(state: State, reply: Reply) -> Part
         ensures { λ r. ⌜ r ≡ declined state reply ⌝ }
     {
@@ -114,7 +114,7 @@ impl Part {
 }
 
 impl State {
-    // The most bus-offs that are counted.
+    // B2: the most bus-offs that are counted.
     pub const MOST_BUS_OFFS: u8 = 255;
 
     // No controller has answered.
@@ -127,7 +127,7 @@ impl State {
         [pending; Network::MOST_CONTROLLERS]
     }
 
-    // The record at the start.
+    // N7, N8: the record at the start.
     pub fn start(network: Network) -> State
         ensures { λ r. ⌜ r ≡ started network ⌝ }
     {
@@ -144,7 +144,7 @@ impl State {
         }
     }
 
-    // Silent may be asked for in an up step only.
+    // N15, R14: silent may be asked for in an up step only.
     pub fn may_want(self, mode: Mode) -> bool
         ensures { λ r. ⌜ r ≡ mayWant (self .step) mode ⌝ }
     {
@@ -156,7 +156,7 @@ impl State {
         }
     }
 
-    // A request stores the wanted mode, nothing else.
+    // N14: the wanted mode is the one requested, and all else stays.
     pub fn want(self, mode: Mode) -> State
         ensures { λ r. ⌜ r ≡ wants self mode ⌝ }
     {

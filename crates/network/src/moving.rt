@@ -6,7 +6,7 @@ use steps::Move;
 ghost use mathlib.Core.Path.{_≡_};
 ghost use Rattle.network.specs.Moving.{lowered, toldAfter, countAfter, asksAfter, keepsAnswers, afterMove};
 
-// Going down tells silent where full was told.
+// T25: going down tells silent where full was told.
 fn lower(told: Mode) -> Mode
     ensures { λ r. ⌜ r ≡ lowered told ⌝ }
 {
@@ -34,7 +34,7 @@ fn told_after(to: Move, told: Mode) -> Mode
     }
 }
 
-// Only the all-clear clears the bus-off count.
+// T10: only passed lets the bus-offs count from 0.
 fn count_after(to: Move, count: u8) -> u8
     ensures { λ r. ⌜ r ≡ countAfter to count ⌝ }
 {
@@ -52,7 +52,7 @@ fn count_after(to: Move, count: u8) -> u8
     }
 }
 
-// Whether the step after a move has asked.
+// N11, N12: whether the step after a move has asked.
 fn asks_after(to: Move, asked: bool) -> bool
     ensures { λ r. ⌜ r ≡ asksAfter to asked ⌝ }
 {
@@ -70,7 +70,7 @@ fn asks_after(to: Move, asked: bool) -> bool
     }
 }
 
-// The step stays, and what was answered stays with it.
+// N11, N12: where the step stays, what was answered stays with it.
 fn keeps_answers(to: Move) -> bool
     ensures { λ r. ⌜ r ≡ keepsAnswers to ⌝ }
 {

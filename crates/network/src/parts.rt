@@ -11,7 +11,7 @@ use settings::Network;
 ghost use mathlib.Core.Path.{_≡_};
 ghost use Rattle.network.specs.Parts.{wantedPart, requestPart, outOfRange, takenPart, reportPart, answerPart};
 
-// The mode is stored where it may be asked for.
+// N14, R14: the mode is stored where it may be asked for.
 fn want_mode(state: State, mode: Mode) -> Part
     ensures { λ r. ⌜ r ≡ wantedPart state mode ⌝ }
 {
@@ -22,7 +22,7 @@ fn want_mode(state: State, mode: Mode) -> Part
     Part::decline(state, Reply::NotUp)
 }
 
-// A communication mode is wanted, by its number.
+// R13: a communication mode is wanted, by its number.
 pub fn request_part(state: State, mode: u8) -> Part
     ensures { λ r. ⌜ r ≡ requestPart state mode ⌝ }
 {
@@ -38,6 +38,7 @@ pub fn request_part(state: State, mode: u8) -> Part
     Part::decline(state, Reply::OutOfRange)
 }
 
+// R13, A1, A3: a mode above 2 is reported.
 fn is_out_of_range(report: Report) -> bool
     ensures { λ r. ⌜ r ≡ outOfRange report ⌝ }
 {
@@ -49,7 +50,7 @@ fn is_out_of_range(report: Report) -> bool
     }
 }
 
-// The record after it, where the step takes the report.
+// R13, R15, A6: the record after it, where the step takes the report.
 fn take_report(state: State, report: Report, after: State) -> Part
     ensures { λ r. ⌜ r ≡ takenPart state report after ⌝ }
 {
@@ -69,7 +70,7 @@ pub fn report_part(state: State, report: Report) -> Part
     take_report(state, report, with_report(state))
 }
 
-// A controller answers the request for a mode: ok (1) or not (0).
+// R13, A1: a controller answers the request for a mode with ok (1) or not (0).
 pub fn answer_part(network: Network, state: State, id: u8, mode: u8, ok: u8) -> Part
     ensures { λ r. ⌜ r ≡ answerPart network state id mode ok ⌝ }
 {

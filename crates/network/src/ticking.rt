@@ -81,7 +81,7 @@ fn any_refused(network: Network, state: State) -> bool
 
 // ---- the conditions of the decision
 
-// Asked, and answered or reported as asked.
+// N13: the step has asked, and what it asked for is there.
 fn is_done(network: Network, state: State) -> bool
     ensures { λ r. ⌜ r ≡ isDone network state ⌝ }
 {
@@ -98,7 +98,7 @@ fn is_done(network: Network, state: State) -> bool
     false
 }
 
-// The long delay: the count is above the threshold.
+// T13: the long delay, where the count is above the threshold.
 fn is_long(threshold: u8, count: u8) -> bool
     ensures { λ r. ⌜ r ≡ isLong threshold count ⌝ }
 {
@@ -114,7 +114,7 @@ fn delay_of(network: Network, count: u8) -> u16
     network.short
 }
 
-// The tick count reaches its time with this tick.
+// T10, T13: with this tick the number of ticks reaches its time.
 fn is_reached(timer: Timer, ensure: u16, delay: u16) -> bool
     ensures { λ r. ⌜ r ≡ reachedBy timer ensure delay ⌝ }
 {
@@ -138,7 +138,7 @@ fn outfit_of(transceiver: Transceiver, partial: bool) -> Outfit
     }
 }
 
-// What this tick does. Refusals are looked for only where they decide, in step 12.
+// T1, T19: the move of this tick. Refusals are looked for only where they decide, in step 12.
 fn choose(network: Network, state: State) -> Move
     ensures { λ r. ⌜ r ≡ moveOf network state ⌝ }
 {

@@ -356,8 +356,7 @@ full-told Mode.No e = absurd (omega arith)
 full-told Mode.Silent e = absurd (omega arith)
 full-told Mode.Full e = refl
 
--- "Whenever a network is said to be full, every controller of it was asked to start and answered that it runs, after the latest of the start, its
--- last bus-off and its last shutdown."
+-- demand 3, first sentence, of one network
 pub first-sentence : (n : Network) (h : OwnHistory) → Ran n h → InRange n → Answered n h
 first-sentence n h r g e =
     let i = holds n h r g in

@@ -1,4 +1,4 @@
--- The words of demand 3 that are read off the records mean what document 01 says of the steps and of polling.
+-- The words of demand 3 that are read off the records mean what the rules N4 to N6 say of the steps and of polling.
 use Rattle.lists.proofs.Basics.{_≡_, sym, _∙_, true, false≢true}
 use Rattle.lists.specs.Lists.{any}
 use Rattle.records.specs.Records.{modeNumber}

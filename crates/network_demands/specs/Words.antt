@@ -102,11 +102,11 @@ fell e = isBusOff (e .sight)
 abbrev pub fellUp : Network → Seen → Bool
 fellUp n e = fell e && hands 7 (n .handle) 3 e
 
--- "Go down: 7 no .. This begins a shutdown"
+-- T26: a shutdown begins, which 7 no says
 abbrev pub shut : Network → Seen → Bool
 shut n e = hands 7 (n .handle) 0 e
 
--- "the all-clear is 8 passed"
+-- T27: the all-clear
 abbrev pub cleared : Network → Seen → Bool
 cleared n e = hands 8 (n .handle) 0 e
 
@@ -121,14 +121,14 @@ unfoldable pub toldBy : Network → List Record → ℕ → ℕ
 toldBy n [] mode = mode
 toldBy n (r ∷ rs) mode = toldBy n rs (cond (eqb 6 (r .kind) && eqb (n .handle) (r .target)) (r .argument) mode)
 
--- "A network is said to be full while the mode last told by kind 6 is full": this number is 2
+-- N5: a network is said to be full where this is 2
 unfoldable pub told : Network → OwnHistory → ℕ
 told n [] = 0
 told n (e ∷ h) = toldBy n (e .records) (told n h)
 
 -- ---- the mode last wanted: that of the last accepted request
 
--- "wanted and told mode no" at the start: 0 where no request was accepted
+-- N8: no is wanted, which is 0, until a request is accepted
 unfoldable pub wanted : OwnHistory → ℕ
 wanted [] = 0
 wanted (e ∷ h) = cond (e .accepted) (wantedBy (e .sight) (wanted h)) (wanted h)
@@ -146,12 +146,13 @@ runs c (e ∷ h) =
     cond (isAnswer c 1 (e .sight) && e .accepted) (askedToStart c h)
     (cond (isAnswer c 0 (e .sight) && e .accepted) false (runs c h))
 
--- ---- demand 3, first sentence: "every controller of it was asked to start and answered that it runs, after the latest of the start, its last
--- bus-off and its last shutdown"
+-- ---- demand 3, first sentence: in a network that is said to be full each controller was asked to start and its last answer says that it runs, both
+-- since the latest of the start, the last bus-off and the last shutdown
 abbrev pub Answered : Network → OwnHistory → Type 0
 Answered n h = told n h ≡ 2 → (c : ℕ) → member c (controllersOf n) ≡ true → runs c (since (setback n) h) ≡ true
 
--- ---- second sentence: "after a bus-off while up, the right delay plus two ticks have passed". The history is s after the bus-off b after h.
+-- ---- second sentence: full again after a bus-off while up only when the delay that is due and two ticks are over. The history is s after the
+-- bus-off b after h.
 
 -- the delay that a bus-off at the head of the history brings: the long one exactly where the bus-offs while up since the all-clear before it, up to
 -- and with it, exceed the threshold
@@ -163,7 +164,7 @@ abbrev pub Delayed : Network → OwnHistory → Seen → OwnHistory → Type 0
 Delayed n s b h =
     fellUp n b ≡ true → never fell s → never (shut n) s → told n (s ++ (b ∷ h)) ≡ 2 → delayAt n (b ∷ h) + 2 ≤ tally ticked s
 
--- ---- third sentence: "under good conditions full is said on just that tick"
+-- ---- third sentence: where conditions are good, that tick is the one that tells full
 
 -- full is wanted at every tick of s, which follows h
 unfoldable pub FullAtTicks : OwnHistory → OwnHistory → Type 0

@@ -20,7 +20,7 @@ use Rattle.network.specs.BusOff.{hitRecords, madeAnew, afterHit}
 use Rattle.network_theorems.specs.Kept.{isFullMode, Kept}
 
 -- ---- records handed out
--- a tick hands out at most c + 2 records for a network of c controllers
+-- R16, K11: a tick hands out at most c + 2 records for a network of c controllers
 pub tick-few : (n : Network) (s : State) → InRange n → length (tickRecords n s) ≤ n .count + 2
 unfolding tickRecords
 tick-few n s g =
@@ -42,7 +42,7 @@ hit-own n Hit.Restart = refl
 hit-own n Hit.NotTaken = refl
 
 -- ---- told and wanted
--- a network that is said to be full is in step 4 or 5
+-- N5: a network that is said to be full is in step 4 or 5
 pub told-full-means-checked-or-full : (n : Network) (s : State) → Kept n s → s .told ≡ Mode.Full → isFullStep (s .step) ≡ true
 told-full-means-checked-or-full n s k e = sym (k .told) ∙ ap isFullMode e
 
@@ -51,12 +51,12 @@ full-mode Mode.No e = absurd (let z : _≡_ {A = ℕ} 0 1 = cc in omega arith)
 full-mode Mode.Silent e = absurd (let z : _≡_ {A = ℕ} 0 1 = cc in omega arith)
 full-mode Mode.Full e = refl
 
--- and a network in step 4 or 5 is said to be full
+-- N5: and a network in step 4 or 5 is said to be full
 pub checked-or-full-means-told-full : (n : Network) (s : State) → Kept n s → isFullStep (s .step) ≡ true → s .told ≡ Mode.Full
 checked-or-full-means-told-full n s k e = full-mode (s .told) (k .told ∙ e)
 
 -- ---- the delay
--- the long delay exactly where the count is above the threshold
+-- T13: the long delay exactly where the count is above the threshold
 pub delay-long : (n : Network) (count : ℕ) → n .threshold < count → delayOf n count ≡ n .long
 unfolding delayOf
 delay-long n count h = rw (lt-ltb (n .threshold) count h) refl
@@ -66,19 +66,19 @@ unfolding delayOf
 delay-short n count h = rw (le-ltb (n .threshold) count h) refl
 
 -- ---- answers
--- entering an asking step forgets the answers and counts as asked
+-- N11: a step that is entered in order to ask has asked, and all answers are blank
 pub entering-forgets : (n : Network) (s : State) (next : Step) →
     (afterMove n s (Move.Enter next) .answers ≡ blankAnswers) × (afterMove n s (Move.Enter next) .asked ≡ true)
 unfolding afterMove
 entering-forgets n s next = (refl, refl)
 
--- sending again keeps them
+-- N12: asking again keeps them
 pub asking-again-keeps : (n : Network) (s : State) →
     (afterMove n s Move.AskAgain .answers ≡ s .answers) × (afterMove n s Move.AskAgain .asked ≡ true)
 unfolding afterMove
 asking-again-keeps n s = (refl, refl)
 
--- a bus-off that is taken forgets them, and the step has not asked
+-- B4, B5: after a bus-off that is taken they are blank, and the step has not asked
 pub recovery-forgets : (s : State) → (afterHit s Hit.Recover .answers ≡ blankAnswers) × (afterHit s Hit.Recover .asked ≡ false)
 unfolding afterHit madeAnew
 recovery-forgets s = (refl, refl)

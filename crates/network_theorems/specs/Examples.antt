@@ -1,5 +1,5 @@
--- Examples of the rules of document 01, section "Tick", by computation on the definitions: at least one for each rule, as a single list
--- under a single statement. A case is a network, its record, what a tick hands out and the record after it.
+-- Examples of the rules of the tick, by computation on the definitions: at least one for each rule, as one list under one statement. A case is a
+-- network, its record, what a tick hands out and the record after it. The rules N11, N12, T3 to T25 and T28 of docs/RULES.md.
 use Prim.Native.Nat.{ℕ}
 use mathlib.Core.Path.{_≡_, refl}
 use mathlib.Core.List.{List, [], _∷_, _++_, map}
@@ -42,11 +42,11 @@ network transceiver partial =
 abbrev bare : Network
 bare = network Transceiver.Absent false
 
--- with transceiver 6 and without PN: up from step 1, down by 10, 12 and 11
+-- with transceiver 6 and without partial networking: up from step 1, down by 10, 12 and 11
 abbrev fitted : Network
 fitted = network (Transceiver.Present 6) false
 
--- with transceiver 6 and PN: up from step 1, down by 9, 10, 11, 12 and 13, or 14 and again from 9
+-- with transceiver 6 and partial networking: up from step 1, down by 9, 10, 11, 12 and 13, or 14 and again from 9
 abbrev partial : Network
 partial = network (Transceiver.Present 6) true
 
@@ -63,7 +63,7 @@ at step wanted told count asked first second reported =
       reported = reported;
     }
 
--- a step that has not asked; one that has, and heard nothing; one that has, with both controllers' ok; one with its report
+-- a step that has not asked
 abbrev quiet : Step → Mode → Mode → ℕ → State
 quiet step wanted told count = at step wanted told count false Pending Pending false
 
@@ -109,53 +109,63 @@ silent = both 3 1 ++ (handed 6 7 1 ∷ handed 7 7 1 ∷ [])
 -- above each group stands the rule that it shows
 abbrev pub examples : List Case
 examples =
-    -- "0: wanted full, enter 1, or 2 without transceiver."
+    -- T4, N11: where full is wanted it comes up by step 1, without a transceiver by step 2, and the step that it enters asks at once
     case fitted (quiet NoCommunication Mode.Full Mode.No 0) (handed 2 6 0 ∷ []) (asking TransceiverNormal Mode.Full Mode.No 0)
     ∷ case bare (quiet NoCommunication Mode.Full Mode.No 0) (both 1 0) (asking ControllersStopped Mode.Full Mode.No 0)
     ∷ case bare (quiet NoCommunication Mode.No Mode.No 0) [] (quiet NoCommunication Mode.No Mode.No 0)
-    -- "1 to 8: wanted no, go down. This comes first." "Go down: 7 no; 6 silent if told full; then the first down step and its requests."
+    -- T3, T25: no is looked at first, and brings 7 no, 6 silent where full was told, and the requests of the first down step
     ∷ case bare (agreed ControllersStarted Mode.No Mode.No 0) (handed 7 7 0 ∷ both 1 0) (asking DownStopped Mode.No Mode.No 0)
     ∷ case bare (quiet (Checking 2) Mode.No Mode.Full 1) (handed 7 7 0 ∷ handed 6 7 1 ∷ both 1 0) (asking DownStopped Mode.No Mode.Silent 1)
     ∷ case partial (quiet Full Mode.No Mode.Full 0) (handed 7 7 0 ∷ handed 6 7 1 ∷ handed 4 6 0 ∷ []) (asking ClearWake Mode.No Mode.Silent 0)
     ∷ case bare (quiet (Waiting 1) Mode.No Mode.Silent 1) (handed 7 7 0 ∷ both 1 0) (asking DownStopped Mode.No Mode.Silent 1)
-    -- "1 done to 2; 2 done to 3; 3 done, enter full." "Enter full: 3 online for each, 6 full, 7 full, tick count 0, step 4."
+    -- T5: done in 1, on to 2
     ∷ case fitted (told-so TransceiverNormal Mode.Full Mode.No 0) (both 1 0) (asking ControllersStopped Mode.Full Mode.No 0)
+    -- T6: done in 2, on to 3
     ∷ case fitted (agreed ControllersStopped Mode.Full Mode.No 0) (both 1 1) (asking ControllersStarted Mode.Full Mode.No 0)
+    -- T7, T23: done in 3, it becomes full: both controllers online, 6 full and 7 full
     ∷ case fitted (agreed ControllersStarted Mode.Full Mode.No 0) full (quiet (Checking 0) Mode.Full Mode.Full 0)
-    -- "A later tick, if it isn't done, sends them all again and sets asked; what is already answered stays."
+    -- N12: not done, both are asked again, and the answer that came is kept
     ∷ case bare (answered ControllersStarted Mode.Full Mode.No Okay Pending) (both 1 1) (answered ControllersStarted Mode.Full Mode.No Okay Pending)
     ∷ case bare (quiet Restarting Mode.Full Mode.Silent 1) (both 1 1) (asking Restarting Mode.Full Mode.Silent 1)
-    -- "4 and 5: wanted silent, enter silent." "Enter silent: 3 TX offline for each, 6 silent, 7 silent, step 8."
+    -- T8, T24: silent is wanted in 4 and in 5: both controllers TX offline, 6 silent and 7 silent
     ∷ case bare (quiet (Checking 2) Mode.Silent Mode.Full 1) silent (quiet Silent Mode.Silent Mode.Silent 1)
     ∷ case bare (quiet Full Mode.Silent Mode.Full 0) silent (quiet Silent Mode.Silent Mode.Silent 0)
-    -- "Else in 4 the tick count rises by one; at the ensure time: 8 passed, count 0, step 5."
+    -- T9: one tick more in 4
     ∷ case bare (quiet (Checking 1) Mode.Full Mode.Full 2) [] (quiet (Checking 2) Mode.Full Mode.Full 2)
+    -- T10: with the third the ensure time is reached, and 8 passed clears the count
     ∷ case bare (quiet (Checking 2) Mode.Full Mode.Full 2) (handed 8 7 0 ∷ []) (quiet Full Mode.Full Mode.Full 0)
-    -- "6 done: 3 TX offline for each controller, tick count 0, step 7."
+    -- T11: done in 6, both controllers TX offline, and the wait begins
     ∷ case bare (agreed Restarting Mode.Full Mode.Silent 1) (both 3 1) (quiet (Waiting 0) Mode.Full Mode.Silent 1)
-    -- "7: the tick count rises by one; when it reaches L2 (count above threshold) or L1 (otherwise), enter full or silent, as wanted."
+    -- T12, T13: one tick more in 7; the count 1 is not above the threshold, so the second tick ends the wait
     ∷ case bare (quiet (Waiting 0) Mode.Full Mode.Silent 1) [] (quiet (Waiting 1) Mode.Full Mode.Silent 1)
     ∷ case bare (quiet (Waiting 1) Mode.Full Mode.Silent 1) full (quiet (Checking 0) Mode.Full Mode.Full 1)
+    -- T12, T13: the count 2 is above it, so the fifth tick does; and where silent is wanted the network becomes silent
     ∷ case bare (quiet (Waiting 1) Mode.Full Mode.Silent 2) [] (quiet (Waiting 2) Mode.Full Mode.Silent 2)
     ∷ case bare (quiet (Waiting 4) Mode.Full Mode.Silent 2) full (quiet (Checking 0) Mode.Full Mode.Full 2)
     ∷ case bare (quiet (Waiting 1) Mode.Silent Mode.Silent 1) silent (quiet Silent Mode.Silent Mode.Silent 1)
-    -- "8: wanted full, enter full."
+    -- T14: full is wanted in 8, and where it is not the network stays
     ∷ case bare (quiet Silent Mode.Full Mode.Silent 1) full (quiet (Checking 0) Mode.Full Mode.Full 1)
     ∷ case bare (quiet Silent Mode.Silent Mode.Silent 1) [] (quiet Silent Mode.Silent Mode.Silent 1)
-    -- "Without PN: 10 to 12, 12 to 11 or, without transceiver, to 0; 11 to 0." "Enter 0: 6 no."
+    -- T15: without partial networking from 10 on to 12
     ∷ case bare (agreed DownStopped Mode.No Mode.No 0) (both 1 2) (asking ControllersSleep Mode.No Mode.No 0)
+    -- T16, T28: from 12 to 0 with 6 no, and with a transceiver to 11
     ∷ case bare (agreed ControllersSleep Mode.No Mode.No 0) (handed 6 7 0 ∷ []) (quiet NoCommunication Mode.No Mode.No 0)
     ∷ case fitted (agreed ControllersSleep Mode.No Mode.Silent 1) (handed 2 6 1 ∷ []) (asking TransceiverStandby Mode.No Mode.Silent 1)
+    -- T17, T28: from 11 to 0
     ∷ case fitted (told-so TransceiverStandby Mode.No Mode.Silent 1) (handed 6 7 0 ∷ []) (quiet NoCommunication Mode.No Mode.No 1)
-    -- "With PN: 9, 10, 11, 12 in turn."
+    -- T18: with partial networking from 9 to 10, 11 and 12
     ∷ case partial (told-so ClearWake Mode.No Mode.No 0) (both 1 0) (asking DownStopped Mode.No Mode.No 0)
     ∷ case partial (agreed DownStopped Mode.No Mode.No 0) (handed 2 6 1 ∷ []) (asking TransceiverStandby Mode.No Mode.No 0)
     ∷ case partial (told-so TransceiverStandby Mode.No Mode.No 0) (both 1 2) (asking ControllersSleep Mode.No Mode.No 0)
-    -- "In 12, if some controller's last answer is a refusal, 14; else when done, 13. 13 to 0; 14 to 9."
+    -- T19: one refusal is enough to go from 12 to 14, and the other answer is not waited for
     ∷ case partial (answered ControllersSleep Mode.No Mode.No Pending Refused) (handed 5 6 0 ∷ []) (asking CheckWakeAgain Mode.No Mode.No 0)
+    -- N12: without partial networking a refusal only makes it ask again
     ∷ case bare (answered ControllersSleep Mode.No Mode.No Okay Refused) (both 1 2) (answered ControllersSleep Mode.No Mode.No Okay Refused)
+    -- T20: done in 12, on to 13
     ∷ case partial (agreed ControllersSleep Mode.No Mode.No 0) (handed 5 6 0 ∷ []) (asking CheckWake Mode.No Mode.No 0)
+    -- T21, T28: from 13 to 0, also where full is wanted again
     ∷ case partial (told-so CheckWake Mode.Full Mode.No 0) (handed 6 7 0 ∷ []) (quiet NoCommunication Mode.Full Mode.No 0)
+    -- T22: from 14 back to 9, which tells nothing
     ∷ case partial (told-so CheckWakeAgain Mode.No Mode.No 0) (handed 4 6 0 ∷ []) (asking ClearWake Mode.No Mode.No 0)
     ∷ []
 

@@ -1,5 +1,5 @@
--- What holds of every network's record from the start on: "A network is said to be full while the mode last told by kind 6 is full", which is
--- in steps 4 and 5; silent is wanted only in steps 4 to 8; and a record has one form.
+-- What holds of every network's record from the start on: it is said to be full just in steps 4 and 5; silent is wanted only in steps 4 to 8; and a
+-- record has one form. The rules N3 and N5 of docs/RULES.md.
 use mathlib.Core.Path.{_≡_}
 use mathlib.Core.Bool.{Bool, true, false}
 use Rattle.lists.specs.Lists.{padded}
@@ -12,7 +12,7 @@ use Rattle.network.specs.declared.LastAnswer.{LastAnswer}
 use Rattle.network.specs.declared.State.{State}
 use Rattle.network.specs.State.{heard, blankAnswers, heardOf}
 
--- the told mode with which a network is said to be full
+-- N5: the told mode with which a network is said to be full
 abbrev pub isFullMode : Mode → Bool
 isFullMode Mode.No = false
 isFullMode Mode.Silent = false
@@ -25,11 +25,11 @@ pub record Quiet (step : Step) : Type 0 where
 
 -- it holds of a network's record at the start, and every call keeps it
 pub record Kept (n : Network) (s : State) : Type 0 where
-  -- told is full exactly in steps 4 and 5
+  -- N5: told is full exactly in steps 4 and 5
   pub told : isFullMode (s .told) ≡ isFullStep (s .step)
   -- wanted is silent only in steps 4 to 8
   pub wanted : s .wanted ≡ Mode.Silent → isUp (s .step) ≡ true
-  -- in a step that asks nothing, asked is no, and nothing is kept as answered or reported
+  -- N3: in a step that asks nothing, asked is no, and nothing is kept as answered or reported
   pub asked : isAsking (s .step) ≡ false → s .asked ≡ false
   pub answers : isAsking (s .step) ≡ false → s .answers ≡ blankAnswers
   pub reported : isAsking (s .step) ≡ false → s .reported ≡ false

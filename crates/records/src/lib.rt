@@ -5,14 +5,14 @@ ghost use Rattle.records.specs.Records.{controllerNumber, transceiverNum
 ghost use Rattle.records.specs.Records.{controllerMode, transceiverMode, pduMode, clearWake, checkWake, tells, notes, reports};
 ghost use Rattle.records.specs.Wrote.{Room, Wrote};
 
-// A record handed out.
+// H1: a record handed out.
 pub struct Record {
     pub kind: u8,
     pub target: u8,
     pub argument: u8,
 }
 
-// What a controller can be asked for.
+// H5: what a controller can be asked for.
 pub enum ControllerMode {
     Stopped,
     Started,
@@ -37,7 +37,7 @@ impl ControllerMode {
     }
 }
 
-// What a transceiver can be asked for.
+// H6: what a transceiver can be asked for.
 pub enum TransceiverMode {
     Normal,
     Standby,
@@ -58,7 +58,7 @@ impl TransceiverMode {
     }
 }
 
-// The PDU mode of a controller.
+// H7: the PDU mode of a controller.
 pub enum PduMode {
     Online,
     TxOffline,
@@ -79,7 +79,7 @@ impl PduMode {
     }
 }
 
-// A communication mode: wanted, told, polled.
+// H10: a communication mode: wanted, told, polled.
 pub enum Mode {
     No,
     Silent,
@@ -104,7 +104,7 @@ impl Mode {
     }
 }
 
-// What the mode manager is told.
+// H11: what the mode manager is told.
 pub enum Notice {
     No,
     Silent,
@@ -133,7 +133,7 @@ impl Notice {
     }
 }
 
-// What the event manager is told.
+// H12: what the event manager is told.
 pub enum EventStatus {
     Passed,
     Prefailed,
@@ -157,7 +157,7 @@ impl EventStatus {
 impl Record {
     // The bytes of a record.
     pub const SIZE: usize = 3;
-    // The kinds. The first and the third name a controller, the second, the fourth and the fifth a transceiver, the others a handle.
+    // H5 to H12: the kinds. The first and the third name a controller, the second, the fourth and the fifth a transceiver, the others a handle.
     pub const CONTROLLER_MODE: u8 = 1;
 
     pub const TRANSCEIVER_MODE: u8 = 2;
@@ -173,7 +173,7 @@ impl Record {
     pub const MODES: u8 = 7;
 
     pub const EVENTS: u8 = 8;
-    // The argument of the kinds that have none.
+    // H8, H9: the argument of the kinds that have none.
     pub const NOTHING: u8 = 0;
 
     pub fn controller_mode(id: u8, mode: ControllerMode) -> Record
@@ -260,7 +260,7 @@ impl Record {
     }
 }
 
-// Record number k of the lent buffer is now this one; the answer is the number of the next.
+// H1, H2: record number k of the lent buffer is now this one; the answer is the number of the next.
 pub fn put_record(out: &mut [u8], k: usize, handed: Record) -> usize
     requires { ⌜ Room (now out) k (handed ∷ []) ⌝ }
     ensures { λ n. ⌜ Wrote (now (out .entry)) (now (out .exit)) k n (handed ∷ []) ⌝ }

@@ -1,5 +1,5 @@
--- Settings that a sheet can say: every range of the table in document 01, section "The settings sheet", and "Handles, controller ids and
--- transceiver ids are each used once in the whole sheet". Unused slots are blank, so that settings have one form.
+-- Settings that a sheet can say: every range of the table of fields, and no id twice. The rules S4 to S11 and S22 of docs/RULES.md. Unused slots are
+-- blank, so that settings have one form.
 use Prim.Native.Nat.{ℕ, _<_, _≤_}
 use mathlib.Core.Path.{_≡_}
 use mathlib.Core.List.{List, [], _∷_, _++_}
@@ -22,7 +22,7 @@ unfoldable pub Fresh : List ℕ → List ℕ → Type 0
 Fresh earlier [] = Unit
 Fresh earlier (x ∷ l) = (member x earlier ≡ false) × Fresh (earlier ++ (x ∷ [])) l
 
--- "used once": the numbers of a list are pairwise different
+-- S10: the numbers of a list are pairwise different
 abbrev pub Distinct : List ℕ → Type 0
 Distinct l = Fresh [] l
 
@@ -31,7 +31,7 @@ unfoldable pub all : (Network → List ℕ) → List Network → List ℕ
 all ids [] = []
 all ids (n ∷ ns) = ids n ++ all ids ns
 
--- the table's ranges, of one network
+-- S4 to S9, S11: one network is in the ranges of the table; neither delay is held against the other
 pub record InRange (n : Network) : Type 0 where
   pub handle : n .handle < 256
   pub some-controller : 0 < n .count
@@ -43,7 +43,7 @@ pub record InRange (n : Network) : Type 0 where
   pub long : (0 < n .long) × (n .long < 65536)
   pub ensure : (0 < n .ensure) × (n .ensure < 65536)
   pub threshold : n .threshold < thresholds
-  -- partial networking needs a transceiver
+  -- S9: partial networking needs a transceiver
   pub partial : n .partial ≡ true → n .transceiver ≡ Absent → ⊥
 
 -- every network of a list is in range
@@ -51,7 +51,7 @@ unfoldable pub EachInRange : List Network → Type 0
 EachInRange [] = Unit
 EachInRange (n ∷ ns) = InRange n × EachInRange ns
 
--- settings that a sheet can say
+-- S10, S22: settings that a sheet can say: one to eight networks, each in its ranges, and no id twice among those of its kind
 pub record Good (s : Settings) : Type 0 where
   pub some-network : 0 < s .count
   pub few-networks : s .count ≤ mostNetworks

@@ -1,4 +1,5 @@
--- What the settings say, from document 01, section "The settings sheet": which ids a network has, and who has an id.
+-- What the settings say: how many and how large ids may be, which ids a network has, and who has an id. The rules S4 to S6, S8, S10, S14, S21 and
+-- S22 of docs/RULES.md.
 -- What an array holds past its count is blank and means nothing: all meaning is through `controllersOf` and `networksOf`.
 use Prim.Native.Nat.{ℕ}
 use mathlib.Core.List.{List, [], _∷_}
@@ -15,23 +16,23 @@ use Rattle.settings.specs.declared.Id.the-variants.{OfNetwork, OfControl
 use Rattle.settings.specs.declared.Holder.{Holder}
 use Rattle.settings.specs.declared.Holder.the-variants.{At, Nobody}
 
--- in one sheet: a "ninth network" is refused
+-- S22: a sheet has eight networks at most
 abbrev pub mostNetworks : ℕ
 mostNetworks = 8
 
--- in one network: a "fifth controller (36)" is refused
+-- S5, S22: a network has four controllers at most
 abbrev pub mostControllers : ℕ
 mostControllers = 4
 
--- 32 is the first number that is no controller id
+-- S5: 32 is the first number that is no controller id
 abbrev pub controllerIds : ℕ
 controllerIds = 32
 
--- 8 is the first number that is no transceiver id
+-- S6: 8 is the first number that is no transceiver id
 abbrev pub transceiverIds : ℕ
 transceiverIds = 8
 
--- 255 is no threshold: a bus-off count, "staying at 255", can exceed every threshold
+-- S8: 255 is no threshold, so that a count of bus-offs, which goes up to 255, can be above every threshold
 abbrev pub thresholds : ℕ
 thresholds = 255
 
@@ -58,20 +59,20 @@ blankSettings = record { networks = replicate mostNetworks blankNetwork; count =
 abbrev pub networksOf : Settings → List Network
 networksOf s = take (s .count) (s .networks)
 
--- the ids of a network, a list for each kind; "the order of controllers in the sheet is the order of requests"
+-- S4: the handle of a network, as a list, so that all three kinds of ids are treated alike
 abbrev pub handlesOf : Network → List ℕ
 handlesOf n = n .handle ∷ []
 
--- the ids of the controllers without the unused slots, in the order of requests
+-- S5, S14: the ids of the controllers without the unused slots, in the order of the sheet, which is that of requests
 abbrev pub controllersOf : Network → List ℕ
 controllersOf n = take (n .count) (n .controllers)
 
--- a transceiver "may be absent": no id, or one
+-- S6: a transceiver may be missing, so there is no id, or one
 abbrev pub listed : Transceiver → List ℕ
 listed Absent = []
 listed (Present x) = x ∷ []
 
--- no id or one, as a list, so that all three kinds of ids are treated alike
+-- S6: the id of a network's transceiver, as a list of none or one
 abbrev pub transceiversOf : Network → List ℕ
 transceiversOf n = listed (n .transceiver)
 
@@ -84,16 +85,16 @@ abbrev pub hasTransceiver : Transceiver → ℕ → Bool
 hasTransceiver Absent x = false
 hasTransceiver (Present y) x = eqb y x
 
--- a network has an id
+-- S10: a network has an id; each of the three kinds is compared with its own
 abbrev pub has : Id → Network → Bool
 has (OfNetwork x) n = eqb (n .handle) x
 has (OfController x) n = member x (controllersOf n)
 has (OfTransceiver x) n = hasTransceiver (n .transceiver) x
 
--- some network has an id: "used once in the whole sheet" is about this
+-- S10, S21: some network has an id, so that it was used before by this kind
 unfoldable pub used : Id → List Network → Bool
 used id ns = any (has id) ns
 
--- the first network that has an id
+-- the first network that has an id, or nobody
 unfoldable pub holderOf : Id → List Network → Holder
 holderOf id ns = cond (any (has id) ns) (At (first (has id) ns)) Nobody

@@ -3,13 +3,13 @@ ghost use mathlib.Core.Path.{_≡_};
 ghost use Prim.Native.Nat.{min};
 ghost use Rattle.settings.specs.Settings.{blankNetwork, blankSettings, member, controllersOf, hasTransceiver, has, networksOf, used, holderOf};
 
-// The transceiver of a network. It may be absent.
+// S6: the transceiver of a network, which may be missing.
 pub enum Transceiver {
     Absent,
     Present(u8),
 }
 
-// What the sheet says of one network.
+// S4 to S9: what the sheet says of one network.
 pub struct Network {
     pub handle: u8,
     // The ids of its controllers, in the order of the sheet; unused slots are 0.
@@ -32,7 +32,7 @@ pub struct Settings {
     pub count: u8,
 }
 
-// An id of one of the three kinds. Each kind has numbers of its own.
+// S10: an id of one of the three kinds. Each kind has numbers of its own.
 pub enum Id {
     OfNetwork(u8),
     OfController(u8),
@@ -47,13 +47,13 @@ pub enum Holder {
 
 impl Network {
     pub const MOST_CONTROLLERS: usize = 4;
-    // Controller ids, transceiver ids and thresholds are below these.
+    // S5, S6, S8: controller ids, transceiver ids and thresholds are below these.
     pub const CONTROLLER_IDS: u8 = 32;
 
     pub const TRANSCEIVER_IDS: u8 = 8;
 
     pub const THRESHOLDS: u8 = 255;
-    // No delay and no ensure time is this.
+    // S7: no delay and no ensure time is this.
     pub const NO_TIME: u16 = 0;
 
     pub fn blank() -> Network

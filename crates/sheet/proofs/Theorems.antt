@@ -55,14 +55,14 @@ same-sheet-same-settings s t g h e = ap (λ (r : Reading). r .settings) (sym (wr
 pub accepted-good : (b : List ℕ) → Bytes b → decode b .answer ≡ Accepted → Good (decode b .settings)
 accepted-good = Back.accepted-good
 
--- its place is its length
+-- R5: its place is its length
 pub accepted-place : (b : List ℕ) → Bytes b → decode b .answer ≡ Accepted → decode b .place ≡ length b
 accepted-place b w e =
     let s = read-then-write b w e in
     ap (λ (l : List ℕ). decode l .place) (sym s)
     ∙ ap (λ (r : Reading). r .place) (write-then-read (decode b .settings) (accepted-good b w e)) ∙ ap length s
 
--- it has 25 to 328 bytes
+-- S12: it has 25 to 328 bytes
 pub accepted-length : (b : List ℕ) → Bytes b → decode b .answer ≡ Accepted → (25 ≤ length b) × (length b ≤ 328)
 accepted-length b w e =
     subst (λ (l : List ℕ). (25 ≤ length l) × (length l ≤ 328)) (read-then-write b w e) (encode-length (decode b .settings) (accepted-good b w e))

@@ -110,7 +110,7 @@ length-networks (n ∷ ns) r =
     let m = r .0 .few-controllers in
     (omega (arith, length-network n (encodeNetworks ns [])), omega (arith, length-network n (encodeNetworks ns []), listed-few (n .transceiver)))
 
--- "A sheet has 25 to 328 bytes"
+-- S12: the sheet of good settings has 25 to 328 bytes
 pub encode-length : (s : Settings) → Good s → (25 ≤ length (encode s)) × (length (encode s) ≤ 328)
 unfolding encode
 encode-length s g =

@@ -1,5 +1,5 @@
--- The sheet of the bench cases of document 01, and what a proof has to open that computes with a sheet. What each case gives is `bench`, in the
--- crate `demands`.
+-- The sheet of the examples E1 to E12 of docs/RULES.md, and what a proof has to open that computes with a sheet. What each example gives is `bench`,
+-- in the crate `demands`.
 use Prim.Native.Nat.{ℕ}
 use mathlib.Core.List.{List, [], _∷_}
 use Rattle.lists.specs.Lists.{any}
@@ -11,7 +11,7 @@ use Rattle.entries.specs.Grammar.{onController, onTransceiver, onTimes, onThres
 use Rattle.sheet.specs.declared.Reading.{Reading}
 use Rattle.sheet.specs.Reading.{pushed, refusedAt, closed, afterOpening, afterFilling, sheet, readFrom, decode}
 
--- "B1 to B12 use that 25-byte sheet"
+-- E1 to E12: the sheet of these examples: handle 7, controller 3, times 2, 5 and 3, threshold 1, no transceiver, no partial networking
 abbrev pub benchSheet : List ℕ
 benchSheet =
     0x01 ∷ 0 ∷ 1 ∷ 7

@@ -1,5 +1,4 @@
--- What reading a sheet gives, from document 01, section "The settings sheet": "A sheet is one network and then a sheet or its end."
--- By recursion on the row of fields, as the bytes give it.
+-- What reading a sheet gives, by recursion on the row of fields, as the bytes give it: the rules S2, S13, S24 to S26 and R3 to R5 of docs/RULES.md.
 use Prim.Native.Nat.{ℕ, _+_}
 use mathlib.Core.List.{List}
 use mathlib.Core.Bool.{cond}
@@ -29,15 +28,15 @@ use Rattle.entries.specs.Grammar.{begun, opens, fills}
 unfoldable pub pushed : Settings → Network → Settings
 pushed s n = record { networks = set (s .networks) (s .count) n; count = s .count + 1 }
 
--- "The place is the offset of the tag." Where a refusal points may depend on the fault and the entry
+-- S24: a refused field's place is where its tag stands, whatever the fault and the entry are
 abbrev pub placeOf : Fault → Entry → ℕ → ℕ
 placeOf fault entry at = at
 
--- beside a refusal the settings are blank
+-- R3, R4: a refusal has its place; beside it the settings are blank and count no network
 unfoldable pub refusedAt : Fault → ℕ → Reading
 refusedAt fault place = record { answer = Verdict.Refused fault; place = place; settings = blankSettings }
 
--- "At the end, no network at all gives 38 at 0"; "an accepted read gives the number of networks and, as place, the sheet's length"
+-- S25, R5: the bytes end where a network may begin: without a network this is refused at 0, else accepted with the networks and the end as place
 unfoldable pub closed : Settings → ℕ → Reading
 closed s at = cond (eqb (s .count) 0) (refusedAt Empty 0) (record { answer = Accepted; place = at; settings = s })
 
@@ -53,20 +52,20 @@ afterFilling (More progress) n entry at more whole = more n progress
 afterFilling Whole n entry at more whole = whole n
 afterFilling (Filling.Refused fault) n entry at more whole = refusedAt fault (placeOf fault entry at)
 
--- a field that is laid out wrongly
+-- S15 to S18, S24: a field that is laid out wrongly is refused where its tag stands
 abbrev pub badAt : Fault → ℕ → Reading
 badAt fault at = refusedAt fault (placeOf fault (Bad fault) at)
 
--- "reading a sheet and reading a network call each other"; the row of unread fields gets shorter
+-- S2: two definitions that call each other, one for where a network may begin and one for within a network; the row of unread fields gets shorter
 unfoldable mutual
-  -- where a network may begin
+  -- S2: where a network may begin, or the sheet may end
   pub sheet : Row → Settings → Reading
   sheet (stop at) s = closed s at
   sheet (stub at tag) s = badAt Cut at
   sheet (overrun at tag n) s = badAt (overrunFault (layoutOf tag n)) at
   sheet (field at tag v rest) s = afterOpening (opens s (fieldEntry tag v)) s (fieldEntry tag v) at (λ handle. network rest s (begun handle) Named)
 
-  -- in a network
+  -- S26: within a network, where the bytes may not end
   pub network : Row → Settings → Network → Progress → Reading
   network (stop at) s n progress = refusedAt Cut at
   network (stub at tag) s n progress = badAt Cut at
@@ -75,7 +74,7 @@ unfoldable mutual
       afterFilling (fills s n progress (fieldEntry tag v) .filling) (fills s n progress (fieldEntry tag v) .network) (fieldEntry tag v) at
       (λ m next. network rest s m next) (λ m. sheet rest (pushed s m))
 
--- what the bytes from a place on say
+-- S13: what the bytes from a place on say
 unfoldable pub readFrom : List ℕ → ℕ → Reading
 readFrom l at = sheet (rowAt l at) blankSettings
 

@@ -1,5 +1,4 @@
--- What writing a sheet into a lent buffer gives, from document 01: "The writer writes from the front too and returns its sheet's length";
--- 20: "the lent buffer is too short"; "A refusal leaves all records and lent bytes alone"; "later bytes stay".
+-- What writing a sheet into a lent buffer gives: the rules H4, R2, R9 and R18 of docs/RULES.md.
 use Prim.Native.Nat.{ℕ}
 use mathlib.Core.List.{List, _++_}
 use mathlib.Core.Bool.{cond}
@@ -10,10 +9,10 @@ use Rattle.sheet.specs.declared.Written.{Written}
 use Rattle.sheet.specs.declared.Written.the-variants.{Short, Length}
 use Rattle.sheet.specs.Encode.{encode}
 
--- the answer: the sheet's length, or refused
+-- H4, R9, R18: the answer is the sheet's length, or a refusal where the buffer has fewer bytes than the sheet
 unfoldable pub written : Settings → List ℕ → Written
 written s buffer = cond (leb (length (encode s)) (length buffer)) (Length (length (encode s))) Short
 
--- every byte of the buffer after it
+-- H4, R2: every byte of the buffer after it: the sheet from the front on and the bytes behind it as they were, or all as before a refusal
 unfoldable pub bufferAfter : Settings → List ℕ → List ℕ
 bufferAfter s buffer = cond (leb (length (encode s)) (length buffer)) (encode s ++ drop (length (encode s)) buffer) buffer

@@ -1,4 +1,4 @@
-// Reading a sheet: a sheet is one network and then a sheet or its end, so the two functions call each other.
+// Reading a sheet, by two functions that call each other: one where a network may begin, one within a network.
 use crate::Reading;
 use crate::Verdict;
 use entries::Entry;
@@ -15,7 +15,7 @@ ghost use Rattle.fields.specs.Fields.{rowAt};
 ghost use Rattle.sheet.specs.Reading.{pushed, placeOf, refusedAt, closed, sheet, network, readFrom};
 ghost use Rattle.sheet.specs.Outcomes.{ReadOutcome};
 
-// Where a refusal points: the offset of the tag.
+// S24: a refused field's place is where its tag stands.
 fn place_of(_fault: Fault, _entry: Entry, at: usize) -> usize
     ensures { λ r. ⌜ r ≡ placeOf «_fault» «_entry» at ⌝ }
 {
@@ -33,7 +33,7 @@ fn refuse(fault: Fault, place: usize) -> Reading
     }
 }
 
-// The end of a sheet, at a place.
+// S25, R5: the end of a sheet, at a place.
 fn close_sheet(settings: Settings, at: usize) -> Reading
     ensures { λ r. ⌜ r ≡ closed settings at ⌝ }
 {
@@ -59,6 +59,7 @@ fn push_network(settings: Settings, network: Network) -> Settings
     next
 }
 
+// S2: what follows where a network may begin.
 fn read_sheet(bytes: &[u8], at: usize, settings: Settings) -> Reading
     ensures { λ r. ⌜ r ≡ sheet (rowAt (now (bytes .entry)) at) settings ⌝ }
 {
@@ -74,6 +75,7 @@ fn read_sheet(bytes: &[u8], at: usize, settings: Settings) -> Reading
     }
 }
 
+// S2, S26: what follows within a network.
 fn read_network(
     bytes: &[u8],
     at: usize,
@@ -107,7 +109,7 @@ pub fn read_rest(bytes: &[u8], at: usize) -> Reading
     read_sheet(bytes, at, settings)
 }
 
-// The settings that the unread bytes of a reader say.
+// S13: the settings that the unread bytes of a reader say.
 pub fn read_from<'a>(reader: Reader<'a>) -> Reading
     ensures { λ r. ⌜ r ≡ readFrom (now (reader .entry .bytes)) (reader .entry .place) ⌝ }
 {

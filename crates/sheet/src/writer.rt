@@ -134,7 +134,7 @@ fn partial_value(partial: bool) -> u8
     }
 }
 
-// A network's fields, in their order.
+// S3: a network's fields, in their order.
 fn put_network(buffer: &mut [u8], at: usize, network: Network) -> usize
     requires { ⌜ at + length (encodeNetwork network []) ≤ length (now buffer) ⌝ }
     ensures { λ r. ⌜ Stored (now (buffer .entry)) at (encodeNetwork network []) r (now (buffer .exit)) ⌝ }
@@ -166,7 +166,7 @@ fn put_networks(buffer: &mut [u8], settings: Settings)
     }
 }
 
-// The sheet of the settings, into a buffer from its front; or refused, where the buffer is too short.
+// H4, R18: the sheet of the settings, into a buffer from its front; or refused, where fewer bytes were lent than the sheet has.
 pub fn write(settings: Settings, buffer: &mut [u8]) -> Written
     ensures { λ r. ⌜ WriteOutcome settings (now (buffer .entry)) r (now (buffer .exit)) ⌝ }
 {

@@ -1,6 +1,6 @@
 -- The calls of the manager, and the outcome of each, complete: answer, next manager, count, polled mode, place, the records handed out, and where a
--- buffer
--- is lent every byte of it. The refusals stand in the order of the table of document 01: the first that applies is given.
+-- buffer is lent every byte of it. Of the refusals that apply the highest in the table of docs/RULES.md is given (R6). The rules R2 to R20, H2 to H4,
+-- N6 to N9, N16, T1, B1 and A1 to A5.
 use Prim.Native.Nat.{ℕ, _*_}
 use mathlib.Core.Path.{_≡_}
 use mathlib.Core.List.{List, [], _∷_, _++_}
@@ -36,7 +36,7 @@ use Rattle.slots.specs.declared.Outcome.{Outcome}
 use Rattle.slots.specs.Manager.{networksOf, settingsOf, blankStates, networkAt, stateAt, withState, withStates, refused, accepted, each}
 use Rattle.slots.specs.Manager.{allRecords, tickNeeds}
 
--- a call with its arguments; of a lent buffer the number of bytes
+-- G2: a call with its arguments; of a lent buffer the number of bytes
 pub data Call : Type 0 where
   read : (bytes : List ℕ) → Call
   write : (room : ℕ) → Call
@@ -62,37 +62,39 @@ byStage Stage.Empty a b c = a
 byStage Stage.Loaded a b c = b
 byStage Stage.Started a b c = c
 
--- a manager with the settings of a sheet that was read
+-- R19: a manager with the settings of the sheet that was read, whatever it had before
 abbrev pub loaded : Settings → Manager
 loaded s = record { stage = Stage.Loaded; count = s .count; networks = s .networks; states = blankStates }
 
--- "An accepted read gives the number of networks and, as place, the sheet's length"; "a refused reading keeps the old one"
+-- what a reading gives that was made before the start
 abbrev pub afterReading : Manager → Reading → Verdict → Outcome
+-- R5, R19: accepted, its count is the number of networks and its place that of the reading; its sheet takes the place of the one before
 afterReading m r Verdict.Accepted =
     record { answer = Answer.Accepted; manager = loaded (r .settings); count = r .settings .count; mode = 0; place = r .place }
+-- R3, R4, R20: refused, the place is that of the refusal, the count is 0, and the former sheet stays in force
 afterReading m r (Verdict.Refused fault) = record { answer = Answer.Sheet fault; manager = m; count = 0; mode = 0; place = r .place }
 
 -- what reading these bytes gives, before the start
 unfoldable pub readInto : Manager → List ℕ → Outcome
 readInto m bytes = afterReading m (decode bytes) (decode bytes .answer)
 
--- the writer's own answer
+-- R9, H4: the writer's answer: 20 where too few bytes were lent, else the length of the sheet as its count
 abbrev pub afterWriting : Manager → Written → Outcome
 afterWriting m Written.Short = refused m Answer.TooShort
 afterWriting m (Written.Length n) = accepted m n
 
--- "The writer writes from the front too and returns its sheet's length."; a buffer that is too short gives 20
+-- R9, R18, H4: writing needs as many bytes as the sheet has, which is its count; with fewer it is refused with 20
 unfoldable pub writingOf : Manager → ℕ → Outcome
 writingOf m room =
     cond (leb (length (encode (settingsOf m))) room) (accepted m (length (encode (settingsOf m)))) (refused m Answer.TooShort)
 
--- "Start puts each network in its first down step .., and hands out nothing"
+-- N7, N8: every network has the record of the start
 abbrev pub startedFrom : Manager → Manager
 startedFrom m = withStates m Stage.Started (each (λ n s. started n) (networksOf m) (m .states))
 
 -- ---- a call that names an id
 
--- 03, 04, 05: nobody has this handle, controller, transceiver
+-- R10 to R12: nobody has this handle, controller or transceiver
 abbrev pub unknown : Id → Answer
 unknown (Id.OfNetwork handle) = Answer.NoHandle
 unknown (Id.OfController controller) = Answer.NoController
@@ -103,7 +105,7 @@ abbrev pub slotAt : Id → Holder → Slot
 slotAt id (Holder.At i) = Slot.At i
 slotAt id Holder.Nobody = Slot.Refused (unknown id)
 
--- before the start no id is looked up: "the call needs a started manager"
+-- R7: before the start no id is looked up
 unfoldable pub slotOf : Manager → Id → Slot
 slotOf m id = byStage (m .stage) (Slot.Refused Answer.NotReady) (Slot.Refused Answer.NotReady) (slotAt id (holderOf id (networksOf m)))
 
@@ -112,14 +114,14 @@ abbrev pub bySlot : Manager → Slot → (ℕ → Outcome) → Outcome
 bySlot m (Slot.Refused refusal) found = refused m refusal
 bySlot m (Slot.At i) found = found i
 
--- the manager's answer for a network's reply
+-- R13 to R15: the manager's answer for a network's reply
 abbrev pub answerOf : Reply → Answer
 answerOf Reply.Taken = Answer.Accepted
 answerOf Reply.OutOfRange = Answer.OutOfRange
 answerOf Reply.NotUp = Answer.NotUp
 answerOf Reply.NotTaken = Answer.NotTaken
 
--- a network's part lifted to its slot: what is taken stores its record, and a refusal changes nothing
+-- R2, N16: a network's part lifted to its slot: what is taken stores its record there and nowhere else, and a refusal changes nothing
 unfoldable pub settled : Manager → ℕ → Reply → State → ℕ → Outcome
 settled m i reply s count = cond (isTaken reply) (accepted (withState m i s) count) (refused m (answerOf reply))
 
@@ -129,22 +131,22 @@ slotOutcome m i sight =
     let part = partOf (networkAt m i) (stateAt m i) sight in
     settled m i (part .reply) (part .state) (length (recordsOf (networkAt m i) (stateAt m i) sight))
 
--- 01, then the refusal for an unknown id, then what the network makes of it
+-- R6: 01, then the refusal for an unknown id, then what the network makes of it
 unfoldable pub named : Manager → Id → Sight → Outcome
 named m id sight = bySlot m (slotOf m id) (λ i. slotOutcome m i sight)
 
--- the records that the slot hands out
+-- R2: the records that the slot hands out, none where there is no slot
 abbrev pub slotRecords : Manager → Slot → Sight → List Record
 slotRecords m (Slot.Refused refusal) sight = []
 slotRecords m (Slot.At i) sight = recordsOf (networkAt m i) (stateAt m i) sight
 
--- "the mode last told by kind 6 (what polling gives)", as its number; the manager stays
+-- N6: a poll gives the number of the mode that was last told, and the manager stays
 abbrev pub polled : Manager → Mode → Outcome
 polled m told = record { answer = Answer.Accepted; manager = m; count = 0; mode = modeNumber told; place = 0 }
 
 -- ---- a call that is lent a buffer for records
 
--- whether it may go on: 01, then 20 with less room than it needs
+-- R6, R7, R9: whether it may go on: 01, then 20 with less room than it needs
 unfoldable pub gateOf : Manager → ℕ → ℕ → Gate
 gateOf m room needs =
     byStage (m .stage) (Gate.Refused Answer.NotReady) (Gate.Refused Answer.NotReady) (cond (ltb room needs) (Gate.Refused Answer.TooShort) Gate.Open)
@@ -154,50 +156,52 @@ abbrev pub byGate : Manager → Gate → Outcome → Outcome
 byGate m (Gate.Refused refusal) o = refused m refusal
 byGate m Gate.Open o = o
 
--- the records, where it goes on
+-- R2: the records, none where it is refused
 abbrev pub gateRecords : Gate → List Record → List Record
 gateRecords (Gate.Refused refusal) rs = []
 gateRecords Gate.Open rs = rs
 
--- "a bus-off [needs] 9" bytes
+-- R17: the bytes that a bus-off needs
 abbrev pub busOffNeeds : ℕ
 busOffNeeds = 9
 
--- every network in use has ticked, in sheet order
+-- T1, H2: every network in use has ticked, in the order of the sheet, and the count is the number of all records
 unfoldable pub allTicked : Manager → Outcome
 allTicked m =
     accepted (withStates m Stage.Started (each tickState (networksOf m) (m .states))) (length (allRecords (networksOf m) (m .states)))
 
 -- ---- every call
 
--- what a call gives
+-- R6, K7: what a call gives; in each case its refusals stand in the order in which they are tested
 unfoldable pub outcome : Manager → Call → Outcome
--- 0B on a started manager: the bytes are not looked at, the place is 0
+-- R4, R8, R19: 0B on a manager that runs, where the bytes are not looked at and the place is 0; until the start every reading is made
 outcome m (read bytes) = byStage (m .stage) (readInto m bytes) (readInto m bytes) (refused m Answer.Running)
--- 01 without a sheet; it works before and after the start
+-- R7: 01 without a sheet; it works before and after the start
 outcome m (write room) = byStage (m .stage) (refused m Answer.NotReady) (writingOf m room) (writingOf m room)
--- 01 without a sheet, 0B on a started manager
+-- R7, R8: 01 without a sheet, 0B on a manager that runs
 outcome m start = byStage (m .stage) (refused m Answer.NotReady) (accepted (startedFrom m) 0) (refused m Answer.Running)
--- 01, 03, 21, 08
+-- R7, R10, R13, R14: 01, 03, 21, 08
 outcome m (request handle mode) = named m (Id.OfNetwork handle) (aRequest mode)
--- 01, 03
+-- R7, R10, N6: 01, 03, else the mode that was last told
 outcome m (poll handle) = bySlot m (slotOf m (Id.OfNetwork handle)) (λ i. polled m (stateAt m i .told))
--- 01, 20 (9 bytes always), 04, 22
+-- R7, R9, R11, R15, R17, B1: 01, 20 (9 bytes in every step), 04, 22; it concerns the network that has the controller
 outcome m (busOff controller room) = byGate m (gateOf m room busOffNeeds) (named m (Id.OfController controller) aBusOff)
--- 01, 04, 21 (a mode above 2 or an ok value above 1), 22
+-- R7, R11, R13, R15, A1: 01, 04, 21 (a mode above 2 or an ok value above 1), 22
 outcome m (answer controller mode ok) = named m (Id.OfController controller) (anAnswer controller mode ok)
--- 01, 05, 21 (above 2), 22: 2 is in range, but no step asks for it
+-- R7, R12, R13, R15, A3: 01, 05, 21 (above 2), 22: mode 2 is in range, but no step asks for it
 outcome m (transceiverMode transceiver mode) = named m (Id.OfTransceiver transceiver) (aReport (Report.Transceiver mode))
--- 01, 05, 22
+-- R7, R12, R15, A4: 01, 05, 22
 outcome m (clearDone transceiver) = named m (Id.OfTransceiver transceiver) (aReport Report.Cleared)
+-- R7, R12, R15, A5: 01, 05, 22
 outcome m (checkDone transceiver) = named m (Id.OfTransceiver transceiver) (aReport Report.Checked)
--- 01, 20
+-- R7, R9, R16: 01, 20
 outcome m (tick room) = byGate m (gateOf m room (tickNeeds m)) (allTicked m)
 
--- the records that a call hands out
+-- H2: the records that a call hands out, in the order in which they are made; only a bus-off and a tick hand out any
 unfoldable pub handedOut : Manager → Call → List Record
 handedOut m (read bytes) = []
 handedOut m (write room) = []
+-- N9: none on the start
 handedOut m start = []
 handedOut m (request handle mode) = []
 handedOut m (poll handle) = []
@@ -210,15 +214,15 @@ handedOut m (tick room) = gateRecords (gateOf m room (tickNeeds m)) (allRecords 
 
 -- ---- lent buffers
 
--- a buffer with records from its front; "later bytes stay"
+-- H2, H3: a buffer with records from its front; the bytes behind them are as they were
 unfoldable pub bufferWith : List ℕ → List Record → List ℕ
 bufferWith b rs = bytes rs ++ drop (3 * length rs) b
 
--- a buffer after writing the sheet; without a sheet every byte stays
+-- R2, H4: a buffer after writing the sheet; without a sheet every byte stays
 unfoldable pub writtenInto : Manager → List ℕ → List ℕ
 writtenInto m b = byStage (m .stage) b (bufferAfter (settingsOf m) b) (bufferAfter (settingsOf m) b)
 
--- what a call gives that is lent the buffer b and leaves it as `after`: its outcome, and the records that it hands out from the buffer's front
+-- K7: what a call gives that is lent the buffer b and leaves it as `after`: its outcome, and the records that it hands out from the buffer's front
 pub record Gives (m : Manager) (c : Call) (b : List ℕ) (r : Outcome) (after : List ℕ) : Type 0 where
   pub result : r ≡ outcome m c
   pub buffer : after ≡ bufferWith b (handedOut m c)
@@ -228,7 +232,7 @@ pub record SlotGives (m : Manager) (slot : Slot) (sight : Sight) (b : List ℕ) 
   pub result : r ≡ bySlot m slot (λ i. slotOutcome m i sight)
   pub buffer : after ≡ bufferWith b (slotRecords m slot sight)
 
--- the same of the writer, which hands out no records but its sheet
+-- K7: the same of the writer, which hands out no records but its sheet
 pub record Writes (m : Manager) (b : List ℕ) (r : Outcome) (after : List ℕ) : Type 0 where
   pub result : r ≡ outcome m (write (length b))
   pub buffer : after ≡ writtenInto m b

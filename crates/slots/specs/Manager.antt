@@ -1,4 +1,4 @@
--- The manager, its answers with document 01's numbers, and what all calls share.
+-- The manager, its answers with their numbers, and what all calls share. The rules R1 to R4, R7 to R16, H2 and T1 of docs/RULES.md.
 use Prim.Native.Nat.{ℕ, _+_, _*_, max}
 use mathlib.Core.List.{List, [], _∷_, _++_}
 use mathlib.Core.Bool.{Bool, false}
@@ -18,7 +18,7 @@ use Rattle.slots.specs.declared.Answer.{Answer}
 use Rattle.slots.specs.declared.Manager.{Manager}
 use Rattle.slots.specs.declared.Outcome.{Outcome}
 
--- the table of document 01, section "Refusal numbers"
+-- R1, R7 to R15, K6: the number of each answer, 0 for accepted; the sheet has its own from 30 to 38
 abbrev pub answerNumber : Answer → ℕ
 answerNumber Answer.Accepted = 0x00
 answerNumber Answer.NotReady = 0x01
@@ -32,7 +32,7 @@ answerNumber Answer.NotUp = 0x08
 answerNumber Answer.NotTaken = 0x22
 answerNumber (Answer.Sheet fault) = faultNumber fault
 
--- the networks in use, in sheet order
+-- the networks in use, in the order of the sheet
 abbrev pub networksOf : Manager → List Network
 networksOf m = take (m .count) (m .networks)
 
@@ -65,7 +65,7 @@ withState m i s = record { stage = m .stage; count = m .count; networks = m .net
 abbrev pub withStates : Manager → Stage → List State → Manager
 withStates m stage states = record { stage = stage; count = m .count; networks = m .networks; states = states }
 
--- "A refusal leaves all records .. alone"; "Beside a refusal every count and a polled mode are 0"
+-- R2 to R4: refused, the manager stays as it was; the count, the polled mode and the place are 0
 abbrev pub refused : Manager → Answer → Outcome
 refused m answer = record { answer = answer; manager = m; count = 0; mode = 0; place = 0 }
 
@@ -73,20 +73,20 @@ refused m answer = record { answer = answer; manager = m; count = 0; mode = 0; p
 abbrev pub accepted : Manager → ℕ → Outcome
 accepted m count = record { answer = Answer.Accepted; manager = m; count = count; mode = 0; place = 0 }
 
--- f of each network and its record, in sheet order; records past the networks stay
+-- T1: f of each network and its record, in the order of the sheet; records past the networks stay
 unfoldable pub each : (Network → State → State) → List Network → List State → List State
 each f [] ss = ss
 each f (n ∷ ns) [] = []
 each f (n ∷ ns) (s ∷ ss) = f n s ∷ each f ns ss
 
--- what a tick hands out: "each network in sheet order"
+-- T1, H2: what a tick hands out, network after network in the order of the sheet
 unfoldable pub allRecords : List Network → List State → List Record
 allRecords [] ss = []
 allRecords (n ∷ ns) [] = []
 allRecords (n ∷ ns) (s ∷ ss) = tickRecords n s ++ allRecords ns ss
 
--- how many records a network may hand out on a tick: its controllers and two. A network has one to four controllers; one that was made up
--- without any counts as one, so that the rule holds of every manager, and not only of those that a sheet gives
+-- R16: how many records a network may hand out on a tick: one for each controller and two more. A network made up without any controller counts as
+-- one that has one, so that the room suffices for every manager, and not only for those that a sheet gives
 abbrev pub share : Network → ℕ
 share n = max 1 (length (controllersOf n)) + 2
 
@@ -95,6 +95,6 @@ unfoldable pub shares : List Network → ℕ
 shares [] = 0
 shares (n ∷ ns) = share n + shares ns
 
--- "A tick needs 3 x (all controllers + 2 x networks) bytes"
+-- R16: the bytes that a tick needs: three for each record that its networks may hand out
 unfoldable pub tickNeeds : Manager → ℕ
 tickNeeds m = 3 * shares (networksOf m)

@@ -23,7 +23,7 @@ fn find(manager: Manager, id: Id) -> Holder
     settings.holder(id)
 }
 
-// The refusal where nobody has the id.
+// R10 to R12: the refusal where nobody has the id.
 fn refusal_of(id: Id) -> Answer
     ensures { λ r. ⌜ r ≡ unknown id ⌝ }
 {
@@ -34,7 +34,7 @@ fn refusal_of(id: Id) -> Answer
     }
 }
 
-// The slot of the network that has this id, in a started manager.
+// R7: the slot of the network that has this id, in a started manager.
 pub fn slot_of(manager: Manager, id: Id) -> Slot
     ensures { λ r. ⌜ r ≡ slotOf manager id ⌝ }
 {

@@ -44,31 +44,31 @@ pub enum Gate {
     Open,
 }
 
-// What a call answers.
+// What a call answers, by its rule and its number.
 pub enum Answer {
     Accepted,
-    // 01: it needs a started manager, or a sheet.
+    // R7: 01, the manager was not started, or has no sheet.
     NotReady,
-    // 0B: the manager was started.
+    // R8: 0B, the manager runs.
     Running,
-    // 20: the lent buffer is too short.
+    // R9: 20, too few bytes were lent.
     TooShort,
-    // 03, 04, 05: nobody has this handle, controller, transceiver.
+    // R10 to R12: 03, 04, 05, nobody has this handle, controller, transceiver.
     NoHandle,
     NoController,
     NoTransceiver,
-    // 21: a mode or ok value out of its range.
+    // R13: 21, a mode above 2 or an ok value above 1.
     OutOfRange,
-    // 08: silent asked for in a step other than 4 to 8.
+    // R14: 08, silent was asked for and the network is not up.
     NotUp,
-    // 22: an answer or bus-off that the step does not take.
+    // R15: 22, the step does not take this answer, report or bus-off.
     NotTaken,
-    // 30 to 38: the sheet.
+    // 30 to 38, by the bytes of a sheet: the reader's own refusals.
     Sheet(Fault),
 }
 
 impl Answer {
-    // The number of this answer.
+    // R1, R7 to R15, K6: the number of this answer.
     pub fn number(self) -> u8
         ensures { λ r. ⌜ r ≡ answerNumber self ⌝ }
     {
@@ -98,7 +98,7 @@ pub struct Outcome {
 }
 
 impl Outcome {
-    // The manager stays as it was. Beside a refusal every count and a polled mode are 0.
+    // R2 to R4: the manager stays as it was, and the count, the polled mode and the place are 0.
     pub fn refuse(manager: Manager, answer: Answer) -> Outcome
         ensures { λ r. ⌜ r ≡ refused manager answer ⌝ }
     {
@@ -126,7 +126,7 @@ impl Outcome {
 }
 
 impl Manager {
-    // The bytes that a bus-off needs: three records.
+    // R17: the bytes that a bus-off needs, for three records.
     pub const BUS_OFF_NEEDS: usize = 9;
     // The most records of a tick that name a network's handle and no controller.
     pub const NOTICES: usize = 2;

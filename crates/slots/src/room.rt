@@ -11,7 +11,7 @@ ghost use Prim.Native.Nat.{_≤_};
 ghost use Rattle.slots.specs.Manager.{share, tickNeeds};
 ghost use Rattle.slots.specs.Calls.{gateOf};
 
-// How many records a network may hand out on a tick.
+// R16: how many records a network may hand out on a tick.
 fn share_of(network: Network) -> usize
     ensures { λ r. ⌜ (r ≡ share network) × (r ≤ 6) ⌝ }
 {
@@ -25,7 +25,7 @@ fn share_of(network: Network) -> usize
     Network::MOST_CONTROLLERS + Manager::NOTICES
 }
 
-// The bytes that a tick needs.
+// R16: the bytes that a tick needs.
 pub fn tick_needs(manager: Manager) -> usize
     ensures { λ r. ⌜ r ≡ tickNeeds manager ⌝ }
 {
@@ -41,7 +41,7 @@ pub fn tick_needs(manager: Manager) -> usize
     Record::SIZE * total
 }
 
-// A call that hands out records: the manager is started, and the lent buffer has the room.
+// R6, R7, R9: a call that hands out records goes on where the manager is started and the lent buffer has the room.
 pub fn gate_of(manager: Manager, room: usize, needs: usize) -> Gate
     ensures { λ r. ⌜ r ≡ gateOf manager room needs ⌝ }
 {

@@ -7,7 +7,7 @@ use network::Reply;
 ghost use mathlib.Core.Path.{_≡_};
 ghost use Rattle.slots.specs.Calls.{settled};
 
-// What is taken stores its record, beside the number of records handed out; a refusal changes nothing.
+// R2, N16: what is taken stores its record in this slot, beside the number of records handed out; a refusal changes nothing.
 pub fn settle(manager: Manager, at: usize, part: Part, count: usize) -> Outcome
     ensures { λ r. ⌜ r ≡ settled manager at (part .reply) (part .state) count ⌝ }
 {

@@ -1,6 +1,6 @@
--- What a tick decides for one network, from document 01, section "Tick": one decision over the step, the wanted mode, whether the step is
--- done, whether a refusal is among the last answers, whether the timer is reached, and the outfit. It is total: where no rule speaks the
--- step stays, and "a later tick, if it isn't done, sends them all again".
+-- What a tick decides for one network: one decision over the step, the wanted mode, whether the step is done, whether a refusal is among the last
+-- answers, whether the timer is reached, and the outfit. It is total: a step that asks and is not done asks again, and where no rule speaks the step
+-- stays. The rules N12 and T3 to T22 of docs/RULES.md.
 use Prim.Native.Nat.{ℕ, _+_}
 use mathlib.Core.Bool.{Bool, true, false, cond}
 use lib.Dec.{ltb}
@@ -35,11 +35,11 @@ byTransceiver Bare a b = a
 byTransceiver Fitted a b = b
 byTransceiver Partial a b = b
 
--- an asking step that has one way on: "if it isn't done, sends them all again"
+-- N12: an asking step that is not done asks again, and one that is makes its move
 abbrev pub whenDone : Bool → Move → Move
 whenDone done move = cond done move AskAgain
 
--- "the tick count rises by one"; it stays at the largest number of two bytes, which no time exceeds
+-- T9, T12: one tick more is counted, up to the largest number of two bytes, which no time exceeds
 abbrev pub risen : ℕ → ℕ
 risen ticks = cond (ltb ticks 65535) (ticks + 1) ticks
 
@@ -50,46 +50,52 @@ isNo Mode.No = true
 isNo Mode.Silent = false
 isNo Mode.Full = false
 
--- "1 to 8: wanted no, go down. This comes first."
+-- T3: no is wanted in a step from 1 to 8
 abbrev pub goesDown : Step → Mode → Bool
 goesDown step wanted = cond (isNo wanted) (isOn step) false
 
 -- ---- the rules
--- the rule of each step, where the network does not go down
+-- the rule of each step, where the network does not go down; steps 9, 13 and 14 without partial networking stay where they are done
 abbrev pub ruleOf : Step → Mode → Bool → Bool → Bool → Outfit → Move
--- "0: wanted full, enter 1, or 2 without transceiver."
+-- T4: where full is wanted it comes up by step 1, without a transceiver by step 2
 ruleOf NoCommunication wanted done refused reached outfit =
     byMode wanted Stay Stay (byTransceiver outfit (Enter ControllersStopped) (Enter TransceiverNormal))
--- "1 done to 2; 2 done to 3; 3 done, enter full."
+-- T5: done, it goes on to 2
 ruleOf TransceiverNormal wanted done refused reached outfit = whenDone done (Enter ControllersStopped)
+-- T6: done, it goes on to 3
 ruleOf ControllersStopped wanted done refused reached outfit = whenDone done (Enter ControllersStarted)
+-- T7: done, it becomes full
 ruleOf ControllersStarted wanted done refused reached outfit = whenDone done EnterFull
--- "4 and 5: wanted silent, enter silent. Else in 4 the tick count rises by one; at the ensure time: 8 passed, count 0, step 5."
+-- T8 to T10: silent where that is wanted; else one tick more, and passed with the tick that reaches the ensure time
 ruleOf (Checking ticks) wanted done refused reached outfit =
     let checked = cond reached Pass (Count (Checking (risen ticks))) in
     byMode wanted checked EnterSilent checked
+-- T8: silent where that is wanted
 ruleOf Full wanted done refused reached outfit = byMode wanted Stay EnterSilent Stay
--- "6 done: 3 TX offline for each controller, tick count 0, step 7."
+-- T11: done, the wait begins
 ruleOf Restarting wanted done refused reached outfit = whenDone done Wait
--- "7: the tick count rises by one; when it reaches L2 .. or L1 .., enter full or silent, as wanted."
+-- T12, T13: one tick more, and with the tick that reaches the delay it becomes full, or silent where that is wanted
 ruleOf (Waiting ticks) wanted done refused reached outfit =
     cond reached (byMode wanted EnterFull EnterSilent EnterFull) (Count (Waiting (risen ticks)))
--- "8: wanted full, enter full."
+-- T14: full where that is wanted
 ruleOf Silent wanted done refused reached outfit = byMode wanted Stay Stay EnterFull
--- "With PN: 9, 10, 11, 12 in turn." "Without PN: 10 to 12, 12 to 11 or, without transceiver, to 0; 11 to 0."
+-- T18: done, with partial networking on to 10
 ruleOf ClearWake wanted done refused reached outfit = whenDone done (byPartial outfit Stay (Enter DownStopped))
+-- T15, T18: done, on to 12, with partial networking to 11
 ruleOf DownStopped wanted done refused reached outfit = whenDone done (byPartial outfit (Enter ControllersSleep) (Enter TransceiverStandby))
+-- T17, T18: done, on to 0, with partial networking to 12
 ruleOf TransceiverStandby wanted done refused reached outfit = whenDone done (byPartial outfit EnterNoCommunication (Enter ControllersSleep))
--- "In 12, if some controller's last answer is a refusal, 14; else when done, 13." This is with PN
+-- T16, T19, T20: done, on to 11 or without a transceiver to 0; with partial networking on to 14 after a refusal, else, done, to 13
 ruleOf ControllersSleep wanted done refused reached outfit =
     byPartial outfit
     (whenDone done (byTransceiver outfit EnterNoCommunication (Enter TransceiverStandby)))
     (cond refused (Enter CheckWakeAgain) (whenDone done (Enter CheckWake)))
--- "13 to 0; 14 to 9."
+-- T21: done, with partial networking on to 0
 ruleOf CheckWake wanted done refused reached outfit = whenDone done (byPartial outfit Stay EnterNoCommunication)
+-- T22: done, with partial networking back to 9
 ruleOf CheckWakeAgain wanted done refused reached outfit = whenDone done (byPartial outfit Stay (Enter ClearWake))
 
--- what a tick decides
+-- T3: what a tick decides, where going down is looked at first
 unfoldable pub decision : Step → Mode → Bool → Bool → Bool → Outfit → Move
 decision step wanted done refused reached outfit =
     cond (goesDown step wanted) GoDown (ruleOf step wanted done refused reached outfit)

@@ -1,5 +1,5 @@
--- The fifteen steps, from document 01, section "The fifteen steps", as one table: a row for each step. What holds of whole groups of steps
--- is said of the phase.
+-- The fifteen steps as one table, with a row for each: its number, its phase, what it asks for and what it counts. What holds of whole groups of
+-- steps is said of the phase. The rules N1, N2, N4 and N10 of docs/RULES.md.
 use Prim.Native.Nat.{ℕ}
 use mathlib.Core.Bool.{Bool, true, false}
 use Rattle.records.specs.declared.ControllerMode.{ControllerMode}
@@ -17,17 +17,15 @@ use Rattle.steps.specs.declared.Profile.{Profile}
 abbrev pub row : ℕ → Phase → Ask → Timer → Profile
 row number phase ask timer = record { number = number; phase = phase; ask = ask; timer = timer }
 
--- "controllers stopped", as a step asks for it
+-- the controllers are to stop, as steps 2 and 10 ask
 abbrev stopped : Ask
 stopped = Ask.Controllers ControllerMode.Stopped
 
--- "controllers started"
+-- the controllers are to start, as steps 3 and 6 ask
 abbrev started : Ask
 started = Ask.Controllers ControllerMode.Started
 
--- "Each network is always in one of fifteen steps": "1 transceiver normal, 2 controllers stopped, 3 controllers started"; "6 restarting,
--- controllers started"; "9 clear wake flag; 10 controllers stopped; 11 transceiver standby; 12 controllers sleep; 13, 14 check wake flag".
--- "The timed steps carry their tick count"
+-- N1, N2: the table of the steps; 4 and 7 have the number of their ticks with them
 abbrev pub profileOf : Step → Profile
 profileOf NoCommunication = row 0 Phase.Off Ask.Nothing Timer.Idle
 profileOf TransceiverNormal = row 1 Phase.Rising (Ask.Transceiver TransceiverMode.Normal) Timer.Idle
@@ -53,16 +51,16 @@ stepNumber step = profileOf step .number
 abbrev pub phaseOf : Step → Phase
 phaseOf step = profileOf step .phase
 
--- what a step asks for: "Asking steps (1 to 3, 6, 9 to 14)"
+-- what a step asks for
 abbrev pub asksFor : Step → Ask
 asksFor step = profileOf step .ask
 
--- what a step counts: "timed steps", 4 and 7
+-- N2: what a step counts: step 4 the ticks up to the ensure time, step 7 those up to the delay
 abbrev pub timerOf : Step → Timer
 timerOf step = profileOf step .timer
 
 -- ---- groups of steps
--- "1 to 8"
+-- the phases of steps 1 to 8, which a network leaves where no is wanted
 abbrev pub onPhase : Phase → Bool
 onPhase Phase.Off = false
 onPhase Phase.Rising = true
@@ -72,7 +70,7 @@ onPhase Phase.Recovering = true
 onPhase Phase.Silent = true
 onPhase Phase.Falling = false
 
--- "up is steps 4 to 8"
+-- N4: up are the phases of steps 4 to 8
 abbrev pub upPhase : Phase → Bool
 upPhase Phase.Off = false
 upPhase Phase.Rising = false
@@ -82,7 +80,7 @@ upPhase Phase.Recovering = true
 upPhase Phase.Silent = true
 upPhase Phase.Falling = false
 
--- steps 4 and 5: the network is said to be full
+-- the phases of steps 4 and 5
 abbrev pub fullPhase : Phase → Bool
 fullPhase Phase.Off = false
 fullPhase Phase.Rising = false
@@ -96,7 +94,7 @@ fullPhase Phase.Falling = false
 abbrev pub isOn : Step → Bool
 isOn step = onPhase (phaseOf step)
 
--- steps 4 to 8
+-- N4: up are steps 4 to 8
 abbrev pub isUp : Step → Bool
 isUp step = upPhase (phaseOf step)
 
@@ -113,7 +111,7 @@ isAsk (Ask.Transceiver mode) = true
 isAsk Ask.ClearWake = true
 isAsk Ask.CheckWake = true
 
--- "Asking steps"
+-- N10: the steps that ask are 1 to 3, 6 and 9 to 14
 abbrev pub isAsking : Step → Bool
 isAsking step = isAsk (asksFor step)
 

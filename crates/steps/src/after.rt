@@ -4,7 +4,7 @@ use crate::Step;
 ghost use mathlib.Core.Path.{_≡_};
 ghost use Rattle.steps.specs.After.{firstDown, stepAfter};
 
-// The first down step: 9 with partial networking, else 10.
+// N7: the first down step is 9 with partial networking, else 10.
 pub fn first_down(partial: bool) -> Step
     ensures { λ r. ⌜ r ≡ firstDown partial ⌝ }
 {

@@ -48,14 +48,14 @@ fn either(test: bool, yes: Move, no: Move) -> Move
     if test { yes } else { no }
 }
 
-// An asking step that is not done asks again.
+// N12: an asking step that is not done asks again.
 fn when_done(done: bool, to: Move) -> Move
     ensures { λ r. ⌜ r ≡ whenDone done to ⌝ }
 {
     if done { to } else { Move::AskAgain }
 }
 
-// One tick more. The count stays at the largest number, which no rule reaches.
+// T9, T12: one tick more. The count stays at the largest number, which no rule reaches.
 fn rise(ticks: u16) -> u16
     ensures { λ r. ⌜ r ≡ risen ticks ⌝ }
 {
@@ -67,6 +67,7 @@ fn rise(ticks: u16) -> u16
 
 // ---- the rules
 
+// T3: no is wanted in a step from 1 to 8.
 fn goes_down(step: Step, wanted: Mode) -> bool
     ensures { λ r. ⌜ r ≡ goesDown step wanted ⌝ }
 {
@@ -77,7 +78,7 @@ fn goes_down(step: Step, wanted: Mode) -> bool
     }
 }
 
-// A rule for each step, where the network does not go down.
+// T4 to T22: a rule for each step, where the network does not go down.
 fn rule_of(
     step: Step,
     wanted: Mode,
@@ -159,7 +160,7 @@ fn rule_of(
     }
 }
 
-// What a tick decides: going down comes first.
+// T3: what a tick decides, where going down is looked at first.
 pub fn decide(
     step: Step,
     wanted: Mode,

@@ -11,7 +11,7 @@ pub use decision::decide;
 use records::ControllerMode;
 use records::TransceiverMode;
 
-// A network is always in one of these. The timed steps carry their tick count.
+// N1, N2, K2: where a network is. Steps 4 and 7 have the number of their ticks inside.
 pub enum Step {
     // 0.
     NoCommunication,
@@ -113,7 +113,7 @@ impl Phase {
         }
     }
 
-    // Steps 4 to 8.
+    // N4: steps 4 to 8.
     fn is_up(self) -> bool
         ensures { λ r. ⌜ r ≡ upPhase self ⌝ }
     {
@@ -191,7 +191,7 @@ impl Step {
     // The most ticks that a timed step counts.
     pub const MOST_TICKS: u16 = 65535;
 
-    // The table of the steps.
+    // N1, N2: the table of the steps.
     fn profile(self) -> Profile
         ensures { λ r. ⌜ r ≡ profileOf self ⌝ }
     {
@@ -254,7 +254,7 @@ impl Step {
         phase.is_on()
     }
 
-    // Steps 4 to 8.
+    // N4: steps 4 to 8.
     pub fn is_up(self) -> bool
         ensures { λ r. ⌜ r ≡ isUp self ⌝ }
     {

@@ -1,4 +1,4 @@
--- Numbers and records as text, from document 01, section "The program": "each record as kind:target:argument"; "All decimal". The codes are ASCII.
+-- Numbers and records as text, as the lines of `cantrace` have them: the rules C18 and C20 of docs/RULES.md. The codes are ASCII.
 use Prim.Native.Nat.{ℕ, zero, suc, _+_, _/_, _%_}
 use mathlib.Core.List.{List, [], _∷_, _++_}
 use mathlib.Core.Bool.{cond}
@@ -26,15 +26,15 @@ unfoldable pub digitsUpTo : ℕ → ℕ → List ℕ
 digitsUpTo zero n = []
 digitsUpTo (suc most) n = cond (ltb n 10) (digit n ∷ []) (digitsUpTo most (n / 10) ++ (digit (n % 10) ∷ []))
 
--- a number in decimal digits: there are no more than it counts, and one
+-- C20: a number in decimal digits; there are no more of them than it counts, and one
 unfoldable pub decimal : ℕ → List ℕ
 decimal n = digitsUpTo (suc n) n
 
--- "each record as kind:target:argument"
+-- C18: a record is its kind, its target and its argument, with colons between them
 unfoldable pub recordText : Record → List ℕ
 recordText r = decimal (r .kind) ++ (colon ∷ (decimal (r .target) ++ (colon ∷ decimal (r .argument))))
 
--- each record after a blank
+-- C18: the records of a line, each after a blank
 unfoldable pub recordsText : List Record → List ℕ
 recordsText [] = []
 recordsText (r ∷ rs) = (blank ∷ recordText r) ++ recordsText rs

@@ -121,7 +121,7 @@ module _ (s : List ℕ) where
   unfolding firstNext linesAfter
   trace-prints = by-reading (eqb (answerNumber (readingOf s .answer)) 0)
 
-  -- "more: the line `too long`, alone"
+  -- C1: too long an input has one line
   pub trace-too-long : 65536 < length s → traceOf s ≡ tooLong ∷ []
   unfolding traceOf
   trace-too-long h = rw (lt-ltb 65536 (length s) h) refl

@@ -1,5 +1,5 @@
--- The events, from document 01, section "The program": "10 request (handle, mode), 11 bus-off (controller), 12 answer (controller, mode, ok), 13
--- transceiver mode (id, mode), 14 clear done (id), 15 check done (id), 16 tick (empty), 17 poll (handle)", and the call of the manager that each is.
+-- The events of a recording, each a field with a tag of its own, and the call of the manager that each is: the rules C5 to C14 and C21 of
+-- docs/RULES.md.
 use Prim.Native.Nat.{ℕ}
 use mathlib.Core.List.{List}
 use mathlib.Core.Bool.{cond}
@@ -10,11 +10,11 @@ use Rattle.slots.specs.Calls.{Call, request, poll, busOff, answer, transceiverM
 use Rattle.trace.specs.declared.Event.{Event}
 use Rattle.trace.specs.declared.Item.{Item}
 
--- an event whose field has the length that its tag asks for; "An event field that is .. of wrong length gives `stop`"
+-- C21: a field is the event of its tag if it has the length of that tag, and else a bad one
 abbrev pub sized : ℕ → ℕ → Event → Item
 sized n wanted event = cond (eqb n wanted) (Item.Known event) Item.Bad
 
--- a field with its tag, its length and the first bytes of its value
+-- C7 to C14: what a field with this tag, this length and these first bytes of its value is
 unfoldable pub eventOf : ℕ → ℕ → ℕ → ℕ → ℕ → Item
 eventOf tag n first second third =
     cond (eqb tag 0x10) (sized n 2 (Event.Request first second))
@@ -31,18 +31,18 @@ eventOf tag n first second third =
 unfoldable pub itemOf : ℕ → List ℕ → Item
 itemOf tag v = eventOf tag (length v) (getD v 0 0) (getD v 1 0) (getD v 2 0)
 
--- what stands at the front of a row: "An event field that is cut, unknown, below 10 or of wrong length gives `stop`"
+-- C21: what stands at the front of a row; a field that is cut is a bad one
 unfoldable pub itemAt : Row → Item
 itemAt (stop at) = Item.End
 itemAt (stub at tag) = Item.Bad
 itemAt (overrun at tag n) = Item.Bad
 itemAt (field at tag v rest) = itemOf tag v
 
--- "Its lent buffer has 144 bytes, room for any call."
+-- C5: the buffer that each call is lent
 abbrev pub lent : List ℕ
 lent = replicate 144 0
 
--- the call of the manager that an event is
+-- C6: the call of the manager that an event is
 abbrev pub callOf : Event → Call
 callOf (Event.Request handle mode) = request handle mode
 callOf (Event.BusOff controller) = busOff controller 144

@@ -1,4 +1,4 @@
--- The lines of the program, from document 01, section "The program". The codes are ASCII.
+-- The lines that `cantrace` writes: the rules C1 and C15 to C21 of docs/RULES.md. The codes are ASCII.
 use Prim.Native.Nat.{ℕ}
 use mathlib.Core.List.{List, [], _∷_, _++_}
 use mathlib.Core.Bool.{Bool, true, false, cond}
@@ -18,15 +18,15 @@ configWord = 99 ∷ 111 ∷ 110 ∷ 102 ∷ 105 ∷ 103 ∷ 32 ∷ []
 abbrev pub stopWord : List ℕ
 stopWord = 115 ∷ 116 ∷ 111 ∷ 112 ∷ 32 ∷ []
 
--- the whole line with its end: "more: the line `too long`, alone"
+-- C1: the line for an input that is too long, with its end
 abbrev pub tooLong : List ℕ
 tooLong = 116 ∷ 111 ∷ 111 ∷ 32 ∷ 108 ∷ 111 ∷ 110 ∷ 103 ∷ 10 ∷ []
 
--- "First line: `config 0` and the number of networks, or `config`, refusal, place"
+-- C15, C16: the first line, with the answer to the sheet and what is shown beside it
 unfoldable pub configLine : ℕ → ℕ → List ℕ
 configLine number shown = configWord ++ (decimal number ++ (blank ∷ (decimal shown ++ (newline ∷ []))))
 
--- "gives `stop` and its offset in the whole input"
+-- C21: the last line, with the place of a bad field
 unfoldable pub stopLine : ℕ → List ℕ
 stopLine at = stopWord ++ (decimal at ++ (newline ∷ []))
 
@@ -44,11 +44,11 @@ polls (clearDone transceiver) = false
 polls (checkDone transceiver) = false
 polls (tick room) = false
 
--- "then each record as kind:target:argument, or the mode polled (0 when the poll is refused)"
+-- C18, C19: what follows the answer: the records, or of a poll its mode
 unfoldable pub saidOf : Bool → ℕ → List Record → List ℕ
 saidOf polled mode records = cond polled (blank ∷ decimal mode) (recordsText records)
 
--- "a line an event: its number from 1, the answer, then ..", of an entry of a history
+-- C17: the line of an entry of a history: its number, the answer, and what follows
 unfoldable pub entryLine : ℕ → Entry → List ℕ
 entryLine number e =
     decimal number ++ (blank ∷ (decimal (e .number) ++ (saidOf (polls (e .call)) (e .mode) (e .records) ++ (newline ∷ []))))

@@ -1,4 +1,4 @@
--- The lines of an input, from document 01, section "The program": what one call of the library gives, and the whole output.
+-- The lines of an input: what one call of the library gives, and the whole output. The rules C1, C6, C15 to C17 and C21 of docs/RULES.md.
 use Prim.Native.Nat.{ℕ, _+_, _<_, _≤_}
 use mathlib.Core.Path.{_≡_}
 use mathlib.Core.List.{List, [], _∷_, _++_}
@@ -26,19 +26,19 @@ pub record Tells (manager : Manager) (next : ℕ) (text : List ℕ) (r : Told) (
   pub next-place : r .next ≡ next
   pub line : Stored before 0 text (r .length) after
 
--- the end gives no bytes, a bad field `stop` and its place, an event its numbered line
+-- C17, C21: the end gives no bytes, a bad field `stop` and its place, an event its numbered line
 abbrev pub itemLine : ℕ → Manager → ℕ → Item → List ℕ
 itemLine number m at Item.End = []
 itemLine number m at Item.Bad = stopLine at
 itemLine number m at (Item.Known event) = eventLine number m event
 
--- the manager after it: only an event is a call
+-- C6: the manager after it; only an event is a call
 abbrev pub itemManager : Manager → Item → Manager
 itemManager m Item.End = m
 itemManager m Item.Bad = m
 itemManager m (Item.Known event) = outcome m (callOf event) .manager
 
--- after a `stop` nothing is left
+-- C21: after a `stop` nothing is left
 abbrev pub itemNext : ℕ → ℕ → Item → ℕ
 itemNext total next Item.End = total
 itemNext total next Item.Bad = total
@@ -62,23 +62,23 @@ TellsAt number m s at r before after = Tells (managerAt m s at) (nextAt s at) (l
 
 -- ---- the first line
 
--- the reading of the sheet, by a new manager
+-- C6: the reading of the sheet, by a new manager
 unfoldable pub readingOf : List ℕ → Outcome
 readingOf s = outcome newManager (read (take (eventsFrom s 0) s))
 
--- "0 means accepted": one of two, by an answer's number
+-- R1: one of two, by whether the reading was accepted
 abbrev pub byReading : {A : Type 0} → Outcome → A → A → A
 byReading o accepted refused = cond (eqb (answerNumber (o .answer)) 0) accepted refused
 
--- with answer 0 the number of networks is shown, with a refusal its place
+-- C15, C16: with answer 0 the number of networks is shown, with a refusal its place
 unfoldable pub firstLine : List ℕ → List ℕ
 firstLine s = configLine (answerNumber (readingOf s .answer)) (byReading (readingOf s) (readingOf s .count) (readingOf s .place))
 
--- "It reads the sheet, starts, and runs"
+-- C6: the manager that has read the sheet and was started
 unfoldable pub firstManager : List ℕ → Manager
 firstManager s = outcome (readingOf s .manager) start .manager
 
--- where the events begin; after a refusal "no more"
+-- C16: the first event's place; after a refused sheet no line follows
 unfoldable pub firstNext : List ℕ → ℕ
 firstNext s = byReading (readingOf s) (eventsFrom s 0) (length s)
 
@@ -101,33 +101,33 @@ decoded (stub at tag) = []
 decoded (overrun at tag n) = []
 decoded (field at tag v rest) = decodedItem (itemOf tag v) (decoded rest)
 
--- a bad field gives `stop` and "its offset in the whole input, the last line"; after an event it is the ending of the rest
+-- C21: a bad field ends the output with its place; after an event it is the ending of the rest
 abbrev pub endingItem : ℕ → Item → List (List ℕ) → List (List ℕ)
 endingItem at Item.End rest = []
 endingItem at Item.Bad rest = stopLine at ∷ []
 endingItem at (Item.Known event) rest = rest
 
--- the last line, where the row has a bad field
+-- C21: the last line, where the row has a bad field
 unfoldable pub ending : Row → List (List ℕ)
 ending (stop at) = []
 ending (stub at tag) = stopLine at ∷ []
 ending (overrun at tag n) = stopLine at ∷ []
 ending (field at tag v rest) = endingItem at (itemOf tag v) (ending rest)
 
--- the events one after the other: a line each, numbered, each on the manager that the one before left
+-- C6, C17: the events one after the other: a line each, numbered, each on the manager that the one before left
 unfoldable pub runLines : ℕ → Manager → List Event → List (List ℕ)
 runLines number m [] = []
 runLines number m (event ∷ events) = eventLine number m event ∷ runLines (number + 1) (outcome m (callOf event) .manager) events
 
--- "a line an event", numbered on; the last line is `stop` where a field is bad
+-- C17, C21: the lines of the events, and `stop` after them where a field is bad
 unfoldable pub eventLines : ℕ → Manager → Row → List (List ℕ)
 eventLines number m row = runLines number m (decoded row) ++ ending row
 
--- the lines after the first: none after a refused sheet
+-- C16: the lines after the first; there is none after a refused sheet
 unfoldable pub linesAfter : List ℕ → List (List ℕ)
 linesAfter s = byReading (readingOf s) (eventLines 1 (firstManager s) (rowAt s (eventsFrom s 0))) []
 
--- "reads at most 65,536 bytes of standard input (more: the line `too long`, alone)"
+-- C1: the whole output for an input
 unfoldable pub traceOf : List ℕ → List (List ℕ)
 traceOf s = cond (ltb 65536 (length s)) (tooLong ∷ []) (firstLine s ∷ linesAfter s)
 

@@ -54,7 +54,7 @@ impl Event {
 // What stands at a place of the events.
 pub enum Item {
     End,
-    // A field that is cut, unknown, below 10 or of wrong length.
+    // C21: a field that is no good event.
     Bad,
     Known(Event),
 }
