@@ -99,12 +99,13 @@ pub record Refusal (c : Call) (a : Answer) : Type 0 where
 pub record ByCall (m : Manager) (P : Call → Outcome → List Record → Type 0) : Type 0 where
   -- it is refused before any network is asked: on a started manager none sees it
   pub refuses : (c : Call) (a : Answer) → Refusal c a →
-      (m .stage ≡ Stage.Started → (i : ℕ) → i < length (networksOf m) → seenAs (networkAt m i) false (addressOf c) ≡ nothing) → P c (refused m a) []
+      (m .stage ≡ Stage.Started → (i : ℕ) → i < length (networksOf m) → seenAs (networkAt m i) (addressOf (answerNumber a) c) ≡ nothing)
+      → P c (refused m a) []
   -- the network that it names refuses it
-  pub declines : (c : Call) (id : Id) (sight : Sight) (i : ℕ) (a : Answer) → addressOf c ≡ to id sight → Found m id i
+  pub declines : (c : Call) (id : Id) (sight : Sight) (i : ℕ) (a : Answer) → addressOf (answerNumber a) c ≡ to id sight → Found m id i
       → isTaken (partOf (networkAt m i) (stateAt m i) sight .reply) ≡ false → Refusal c a → P c (refused m a) []
   -- the network that it names takes it
-  pub takes : (c : Call) (id : Id) (sight : Sight) (i : ℕ) → addressOf c ≡ to id sight → Found m id i
+  pub takes : (c : Call) (id : Id) (sight : Sight) (i : ℕ) → addressOf 0 c ≡ to id sight → Found m id i
       → isTaken (partOf (networkAt m i) (stateAt m i) sight .reply) ≡ true
       → 3 * length (recordsOf (networkAt m i) (stateAt m i) sight) ≤ roomOf c
       → P c (accepted (withState m i (partOf (networkAt m i) (stateAt m i) sight .state)) (length (recordsOf (networkAt m i) (stateAt m i) sight)))
@@ -123,7 +124,7 @@ module _ (m : Manager) (P : Call → Outcome → List Record → Type 0) (by : B
   -- ---- a call that names an id
   -- its refusals: 01, the one for an unknown id, and those of the network
   record Refusals (c : Call) (id : Id) (sight : Sight) : Type 0 where
-    names : addressOf c ≡ to id sight
+    names : (number : ℕ) → addressOf number c ≡ to id sight
     unready : Refusal c Answer.NotReady
     nobody : Refusal c (unknown id)
     declined : (i : ℕ) → isTaken (partOf (networkAt m i) (stateAt m i) sight .reply) ≡ false
@@ -135,15 +136,16 @@ module _ (m : Manager) (P : Call → Outcome → List Record → Type 0) (by : B
   unfolding slotOutcome settled
   at-slot c id sight r i f =
       split (λ (o : Outcome). P c o (recordsOf (networkAt m i) (stateAt m i) sight)) (isTaken (partOf (networkAt m i) (stateAt m i) sight .reply))
-      (λ e. by .takes c id sight i (r .names) f e (r .fits i)) (λ e. subst (P c (refused m (answerOf (partOf (networkAt m i) (stateAt m i)
-      sight .reply)))) (sym (refused-stays (networkAt m i) (stateAt m i) sight e .1)) (by .declines c id sight i _ (r .names) f e (r .declined i e)))
+      (λ e. by .takes c id sight i (r .names 0) f e (r .fits i))
+      (λ e. subst (P c (refused m (answerOf (partOf (networkAt m i) (stateAt m i) sight .reply))))
+      (sym (refused-stays (networkAt m i) (stateAt m i) sight e .1)) (by .declines c id sight i _ (r .names _) f e (r .declined i e)))
 
   by-named : (c : Call) (id : Id) (sight : Sight) → Refusals c id sight → P c (named m id sight) (slotRecords m (slotOf m id) sight)
   unfolding named
   by-named c id sight r =
       by-slot m id (λ slot. P c (bySlot m slot (λ i. slotOutcome m i sight)) (slotRecords m slot sight))
       (λ f. by .refuses c Answer.NotReady (r .unready) (λ s. absurd (f s))) (λ f. by .refuses c (unknown id)
-      (r .nobody) (λ s i h. ap (seenAs (networkAt m i) false) (r .names) ∙ ap (λ (b : Bool). cond b sight nothing) (f i h))) (at-slot c id sight r)
+      (r .nobody) (λ s i h. ap (seenAs (networkAt m i)) (r .names _) ∙ ap (λ (b : Bool). cond b sight nothing) (f i h))) (at-slot c id sight r)
 
   -- it hands out nothing, whatever the slot
   quiet : (c : Call) (id : Id) (sight : Sight) →
@@ -156,7 +158,7 @@ module _ (m : Manager) (P : Call → Outcome → List Record → Type 0) (by : B
 
   -- ---- a call that is lent a buffer for records
   by-gate : (c : Call) (room needs : ℕ) (o : Outcome) (rs : List Record) →
-      Refusal c Answer.NotReady → Refusal c Answer.TooShort → (ltb room needs ≡ true → (n : Network) → seenAs n false (addressOf c) ≡ nothing) →
+      Refusal c Answer.NotReady → Refusal c Answer.TooShort → (ltb room needs ≡ true → (n : Network) → seenAs n (addressOf 0x20 c) ≡ nothing) →
       (m .stage ≡ Stage.Started → ltb room needs ≡ false → P c o rs) → P c (byGate m (gateOf m room needs) o) (gateRecords (gateOf m room needs) rs)
   unfolding gateOf
   by-gate c room needs o rs unready short unseen p = at-stage (m .stage) refl
@@ -245,7 +247,7 @@ module _ (m : Manager) (P : Call → Outcome → List Record → Type 0) (by : B
   by-call start = by-start (m .stage) refl
   by-call (request handle mode) = quiet (request handle mode) (Id.OfNetwork handle) (aRequest mode)
       (record {
-        names = refl;
+        names = λ number. refl;
         unready = record { refused = refl; among = refl };
         nobody = record { refused = refl; among = refl };
         declined = request-declined handle mode;
@@ -260,7 +262,7 @@ module _ (m : Manager) (P : Call → Outcome → List Record → Type 0) (by : B
       by-gate (busOff c room) room busOffNeeds _ _ (record { refused = refl; among = refl }) (record { refused = refl; among = refl })
       (λ e n. rw e refl)
       (λ s e. by-named (busOff c room) (Id.OfController c) aBusOff (record {
-        names = rw e refl;
+        names = λ number. rw e refl;
         unready = record { refused = refl; among = refl };
         nobody = record { refused = refl; among = refl };
         declined = hit-declined c room;
@@ -268,7 +270,7 @@ module _ (m : Manager) (P : Call → Outcome → List Record → Type 0) (by : B
       }))
   by-call (answer c mode ok) = quiet (answer c mode ok) (Id.OfController c) (anAnswer c mode ok)
       (record {
-        names = refl;
+        names = λ number. refl;
         unready = record { refused = refl; among = refl };
         nobody = record { refused = refl; among = refl };
         declined = answer-declined c mode ok;
@@ -277,7 +279,7 @@ module _ (m : Manager) (P : Call → Outcome → List Record → Type 0) (by : B
       (λ i. refl)
   by-call (transceiverMode t mode) = quiet (transceiverMode t mode) (Id.OfTransceiver t) (aReport (Report.Transceiver mode))
       (record {
-        names = refl;
+        names = λ number. refl;
         unready = record { refused = refl; among = refl };
         nobody = record { refused = refl; among = refl };
         declined = report-declined (transceiverMode t mode)
@@ -287,7 +289,7 @@ module _ (m : Manager) (P : Call → Outcome → List Record → Type 0) (by : B
       (λ i. refl)
   by-call (clearDone t) = quiet (clearDone t) (Id.OfTransceiver t) (aReport Report.Cleared)
       (record {
-        names = refl;
+        names = λ number. refl;
         unready = record { refused = refl; among = refl };
         nobody = record { refused = refl; among = refl };
         declined = report-declined (clearDone t) Report.Cleared (λ e. absurd (true≢false (sym e))) (record { refused = refl; among = refl });
@@ -296,7 +298,7 @@ module _ (m : Manager) (P : Call → Outcome → List Record → Type 0) (by : B
       (λ i. refl)
   by-call (checkDone t) = quiet (checkDone t) (Id.OfTransceiver t) (aReport Report.Checked)
       (record {
-        names = refl;
+        names = λ number. refl;
         unready = record { refused = refl; among = refl };
         nobody = record { refused = refl; among = refl };
         declined = report-declined (checkDone t) Report.Checked (λ e. absurd (true≢false (sym e))) (record { refused = refl; among = refl });

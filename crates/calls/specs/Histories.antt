@@ -3,7 +3,7 @@
 use Prim.Native.Nat.{ℕ}
 use mathlib.Core.Path.{_≡_}
 use mathlib.Core.List.{List, [], _∷_}
-use mathlib.Core.Bool.{Bool, true, false, cond}
+use mathlib.Core.Bool.{Bool, true, false, _&&_, cond}
 use lib.Dec.{eqb, ltb}
 use Rattle.lists.specs.Lists.{Bytes}
 use Rattle.records.specs.declared.Record.{Record}
@@ -60,25 +60,26 @@ pub data Address : Type 0 where
   toAll : Address
   toNobody : Address
 
--- a bus-off without room for its records concerns nobody
-abbrev pub addressOf : Call → Address
-addressOf (read bytes) = toNobody
-addressOf (write room) = toNobody
-addressOf start = toNobody
-addressOf (request handle mode) = to (Id.OfNetwork handle) (aRequest mode)
-addressOf (poll handle) = toNobody
-addressOf (busOff controller room) = cond (ltb room busOffNeeds) toNobody (to (Id.OfController controller) aBusOff)
-addressOf (answer controller mode ok) = to (Id.OfController controller) (anAnswer controller mode ok)
-addressOf (transceiverMode transceiver mode) = to (Id.OfTransceiver transceiver) (aReport (Report.Transceiver mode))
-addressOf (clearDone transceiver) = to (Id.OfTransceiver transceiver) (aReport Report.Cleared)
-addressOf (checkDone transceiver) = to (Id.OfTransceiver transceiver) (aReport Report.Checked)
-addressOf (tick room) = toAll
+-- T2, B1: by the number of its answer; a tick that was refused concerns nobody, nor does a bus-off that was refused with 20 and lent too few bytes
+abbrev pub addressOf : ℕ → Call → Address
+addressOf number (read bytes) = toNobody
+addressOf number (write room) = toNobody
+addressOf number start = toNobody
+addressOf number (request handle mode) = to (Id.OfNetwork handle) (aRequest mode)
+addressOf number (poll handle) = toNobody
+addressOf number (busOff controller room) =
+    cond (ltb room busOffNeeds && eqb 0x20 number) toNobody (to (Id.OfController controller) aBusOff)
+addressOf number (answer controller mode ok) = to (Id.OfController controller) (anAnswer controller mode ok)
+addressOf number (transceiverMode transceiver mode) = to (Id.OfTransceiver transceiver) (aReport (Report.Transceiver mode))
+addressOf number (clearDone transceiver) = to (Id.OfTransceiver transceiver) (aReport Report.Cleared)
+addressOf number (checkDone transceiver) = to (Id.OfTransceiver transceiver) (aReport Report.Checked)
+addressOf number (tick room) = cond (eqb 0 number) toAll toNobody
 
--- T2: what it is to one network; a tick that is refused is none
-abbrev pub seenAs : Network → Bool → Address → Sight
-seenAs n accepted (to id sight) = cond (has id n) sight nothing
-seenAs n accepted toAll = cond accepted aTick nothing
-seenAs n accepted toNobody = nothing
+-- what it is to one network
+abbrev pub seenAs : Network → Address → Sight
+seenAs n (to id sight) = cond (has id n) sight nothing
+seenAs n toAll = aTick
+seenAs n toNobody = nothing
 
 -- ---- the answers that each call can have
 

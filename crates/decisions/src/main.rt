@@ -2,50 +2,59 @@
 // silent, full; done, not done; a refusal present, absent; the timer reached, not; no transceiver, a transceiver, a transceiver with partial
 // networking. The last varies fastest.
 use records::Mode;
+use records::NamedMode;
 use steps::Outfit;
 use steps::Step;
 
 // How many choices there are of each.
 const STEPS: u8 = 15;
 
-const OUTFITS: u8 = 3;
+const MODES: u8 = 3;
 
 const TESTS: u8 = 2;
 
-const SITUATIONS: u8 = 72;
+const OUTFITS: u8 = 3;
 
-fn step_of(number: u8) -> Step {
-    match number {
-        0 => Step::NoCommunication,
-        1 => Step::TransceiverNormal,
-        2 => Step::ControllersStopped,
-        3 => Step::ControllersStarted,
-        4 => Step::Checking(0),
-        5 => Step::Full,
-        6 => Step::Restarting,
-        7 => Step::Waiting(0),
-        8 => Step::Silent,
-        9 => Step::ClearWake,
-        10 => Step::DownStopped,
-        11 => Step::TransceiverStandby,
-        12 => Step::ControllersSleep,
-        13 => Step::CheckWake,
-        _ => Step::CheckWakeAgain,
+const SITUATIONS: u8 = MODES * TESTS * TESTS * TESTS * OUTFITS;
+
+// The outfits, as they are counted here.
+const BARE: u8 = 0;
+
+const FITTED: u8 = 1;
+
+// The step that comes after one, by their numbers; after the last comes the first.
+fn following(step: Step) -> Step {
+    match step {
+        Step::NoCommunication => Step::TransceiverNormal,
+        Step::TransceiverNormal => Step::ControllersStopped,
+        Step::ControllersStopped => Step::ControllersStarted,
+        Step::ControllersStarted => Step::Checking(0),
+        Step::Checking(_) => Step::Full,
+        Step::Full => Step::Restarting,
+        Step::Restarting => Step::Waiting(0),
+        Step::Waiting(_) => Step::Silent,
+        Step::Silent => Step::ClearWake,
+        Step::ClearWake => Step::DownStopped,
+        Step::DownStopped => Step::TransceiverStandby,
+        Step::TransceiverStandby => Step::ControllersSleep,
+        Step::ControllersSleep => Step::CheckWake,
+        Step::CheckWake => Step::CheckWakeAgain,
+        Step::CheckWakeAgain => Step::NoCommunication,
     }
 }
 
+// The wanted mode with a number, which is one of the three.
 fn mode_of(number: u8) -> Mode {
-    match number {
-        0 => Mode::No,
-        1 => Mode::Silent,
-        _ => Mode::Full,
+    match Mode::from_number(number) {
+        NamedMode::Known(mode) => mode,
+        NamedMode::Unknown => Mode::Full,
     }
 }
 
 fn outfit_of(number: u8) -> Outfit {
     match number {
-        0 => Outfit::Bare,
-        1 => Outfit::Fitted,
+        BARE => Outfit::Bare,
+        FITTED => Outfit::Fitted,
         _ => Outfit::Partial,
     }
 }
@@ -58,7 +67,7 @@ fn is_partial(outfit: Outfit) -> bool {
     }
 }
 
-// The next step of a step in a situation, which is a number below 72.
+// The next step of a step in a situation, which is a number.
 fn next_step(step: Step, situation: u8) -> Step {
     let outfit = outfit_of(situation % OUTFITS);
     let reached = situation / OUTFITS % TESTS == 0;
@@ -73,9 +82,8 @@ fn put_step(step: Step) {
     printing::put_byte(step.number());
 }
 
-fn put_line(number: u8) {
-    let step = step_of(number);
-    printing::put_digits(number as u64);
+fn put_line(step: Step) {
+    printing::put_digits(step.number() as u64);
     let mut situation: u8 = 0;
     while situation < SITUATIONS {
         put_step(next_step(step, situation));
@@ -86,9 +94,11 @@ fn put_line(number: u8) {
 
 fn main() {
     printing::put_text(b"expected output made by: python3 tests/decisions.py\n");
-    let mut number: u8 = 0;
-    while number < STEPS {
-        put_line(number);
-        number += 1;
+    let mut step = Step::NoCommunication;
+    let mut written: u8 = 0;
+    while written < STEPS {
+        put_line(step);
+        step = following(step);
+        written += 1;
     }
 }

@@ -1,9 +1,11 @@
 -- A history of the manager since its start, as one network sees it, is one of the network's own rules; and the network's record is the one that they
 -- give.
-use Rattle.lists.proofs.Basics.{ℕ, _*_, _<_, arith, _≡_, refl, sym, ap, subst, _∙_, [], _∷_, length, getD, take}
+use Rattle.lists.proofs.Basics.{ℕ, zero, suc, _*_, _<_, arith, _≡_, refl, sym, ap, subst, _∙_, List, [], _∷_, _++_, length, getD, take}
 use Rattle.settings.specs.declared.Network.{Network}
 use Rattle.settings.specs.declared.Settings.{Settings}
-use Rattle.settings.specs.Settings.{blankNetwork}
+use Rattle.settings.specs.Settings.{blankNetwork, controllersOf}
+use Rattle.settings.specs.Good.{InRange, Distinct, Fresh, all}
+use Rattle.settings.proofs.Good.{fresh-left, fresh-right}
 use Rattle.network.specs.declared.State.{State}
 use Rattle.network.specs.State.{started as started-state}
 use Rattle.slots.specs.declared.Stage.{Stage}
@@ -13,9 +15,11 @@ use Rattle.slots.specs.declared.Outcome.{Outcome}
 use Rattle.slots.specs.Manager.{networksOf, settingsOf, networkAt, stateAt, refused, accepted, shares, tickNeeds}
 use Rattle.slots.specs.Calls.{Call, start, byStage, startedFrom, outcome}
 use Rattle.calls.specs.Histories.{entryOf, History, Since, begun, goes}
+use Rattle.calls.proofs.ByCall.{slot-network}
 use Rattle.manager_theorems.specs.Careful.{Sound}
-use Rattle.manager_theorems.proofs.Sound.{each-slot, call-sound, call-settled, reached-sound}
+use Rattle.manager_theorems.proofs.Sound.{each-slot, slot-in-range, call-sound, call-settled, reached-sound}
 use Rattle.network_demands.specs.Own.{played, stateOf, Fits, Ran}
+use Rattle.network_demands.proofs.Slots.{fresh-distinct}
 use Rattle.demands.specs.View.{viewOf, viewsOf}
 use Rattle.demands.specs.Demands.{Begun}
 use Rattle.demands.proofs.Apart.{Once}
@@ -101,3 +105,31 @@ module _ (m₀ m : Manager) (h : History) (f : Tracked m₀ m h) where
 pub follow : (m₀ m : Manager) (h : History) → Begun m₀ → Since m₀ m h → Tracked m₀ m h
 follow m₀ _ _ b begun = begins m₀ b
 follow m₀ _ _ b (goes m h c s) = goes-on m₀ m h (follow m₀ m h b s) c
+
+-- ---- the networks of a manager that was just started
+-- their controllers are pairwise different
+distinct-at : (ns : List Network) (i : ℕ) (d : Network) (e : List ℕ) →
+    Fresh e (all controllersOf ns) → i < length ns → Distinct (controllersOf (getD ns i d))
+unfolding all
+distinct-at [] i d e f h = absurd (omega arith)
+distinct-at (n ∷ ns) zero d e f h = fresh-distinct e (controllersOf n) (fresh-left e (controllersOf n) (all controllersOf ns) f)
+distinct-at (n ∷ ns) (suc i) d e f h =
+    distinct-at ns i d (e ++ controllersOf n) (fresh-right e (controllersOf n) (all controllersOf ns) f) (omega arith)
+
+module _ (m₀ : Manager) (b : Begun m₀) where
+  pub sound : Sound m₀
+  sound = begins m₀ b .sound
+
+  module _ (i : ℕ) (l : i < length (networksOf m₀)) where
+    -- a history since the start, as the network sees it
+    pub ran-since : (m : Manager) (h : History) → Since m₀ m h → Ran (networkAt m₀ i) (viewsOf (networkAt m₀ i) h)
+    ran-since m h s = follow m₀ m h b s .ran i l
+
+    pub in-range : InRange (networkAt m₀ i)
+    in-range = slot-in-range m₀ sound i l
+
+    pub distinct : Distinct (controllersOf (networkAt m₀ i))
+    distinct =
+        let started = begins m₀ b .started in
+        let g = sound .good (λ e. let z : _≡_ {A = ℕ} 0 1 = cc in omega arith) in
+        subst (λ (n : Network). Distinct (controllersOf n)) (slot-network m₀ i l) (distinct-at (networksOf m₀) i blankNetwork [] (g .controllers) l)

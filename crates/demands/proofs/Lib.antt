@@ -4,3 +4,5 @@ pub mod Apart
 pub mod Parts
 pub mod Follow
 pub mod DemandThree
+pub mod Promises
+pub mod Lives

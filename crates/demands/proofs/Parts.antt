@@ -1,6 +1,5 @@
 -- What a call of the manager makes of one network is the network's own part in it: its record after the call, its answer where the call concerns it,
--- and of
--- what is handed out the records that name its ids.
+-- and of what is handed out the records that name its ids.
 use Rattle.lists.proofs.Basics.{ℕ, zero, suc, _<_, arith, _≡_, refl, sym, ap, subst, _∙_, List, [], _∷_, append-nil, Bool, true, false, cond}
 use Rattle.lists.proofs.Basics.{true≢false, false≢true, length, getD, set, getD-set-same, getD-set-other}
 use Rattle.lists.proofs.Any.{every-weaken}
@@ -22,7 +21,7 @@ use Rattle.slots.specs.declared.Stage.{Stage}
 use Rattle.slots.specs.declared.Slot.{Slot}
 use Rattle.slots.specs.declared.Manager.{Manager}
 use Rattle.slots.specs.declared.Outcome.{Outcome}
-use Rattle.slots.specs.Manager.{networksOf, blankState, networkAt, stateAt, allRecords}
+use Rattle.slots.specs.Manager.{answerNumber, networksOf, blankState, networkAt, stateAt, allRecords}
 use Rattle.slots.specs.Calls.{Call, slotOf, allTicked, outcome, handedOut}
 use Rattle.calls.specs.Histories.{isAccepted, Address, addressOf, seenAs, entryOf}
 use Rattle.calls.proofs.ByCall.{slot-network, Found, by-slot, ByCall, by-call}
@@ -101,7 +100,7 @@ module _
     records : keep (ownRecord n) rs ≡ recordsOf n s sight
 
   abbrev PlaysIn : Call → Outcome → List Record → Type 0
-  PlaysIn c o rs = Plays (seenAs n (isAccepted (o .answer)) (addressOf c)) (isAccepted (o .answer)) (stateAt (o .manager) i) rs
+  PlaysIn c o rs = Plays (seenAs n (addressOf (answerNumber (o .answer)) c)) (isAccepted (o .answer)) (stateAt (o .manager) i) rs
 
   -- it sees nothing, and nothing of its own is handed out
   unseen : (accepted : Bool) (after : State) (rs : List Record) → after ≡ s → keep (ownRecord n) rs ≡ [] → Plays nothing accepted after rs
@@ -173,13 +172,12 @@ module _
   unfolding allTicked partOf recordsOf
   call-plays = by-call m PlaysIn (record {
     refuses = λ c a r f.
-        let e : seenAs n (isAccepted a) (addressOf c) ≡ nothing = ap (λ (b : Bool). seenAs n b (addressOf c)) (r .refused) ∙ f started i h in
-        subst (λ (sight : Sight). Plays sight (isAccepted a) s []) (sym e) (unseen (isAccepted a) s [] refl none-kept);
+        subst (λ (sight : Sight). Plays sight (isAccepted a) s []) (sym (f started i h)) (unseen (isAccepted a) s [] refl none-kept);
     declines = λ c id sight j a e f d r.
-        subst (λ (b : Bool). Plays (seenAs n b (addressOf c)) b s []) (sym (r .refused))
-        (subst (λ (x : Address). Plays (seenAs n false x) false s []) (sym e) (declined-plays id sight j f d (has id n) refl));
+        subst (λ (b : Bool). Plays (seenAs n (addressOf (answerNumber a) c)) b s []) (sym (r .refused))
+        (subst (λ (x : Address). Plays (seenAs n x) false s []) (sym e) (declined-plays id sight j f d (has id n) refl));
     takes = λ c id sight j e f t k.
-        subst (λ (x : Address). Plays (seenAs n true x) true (stored j sight) (recordsOf (networkAt m j) (stateAt m j) sight))
+        subst (λ (x : Address). Plays (seenAs n x) true (stored j sight) (recordsOf (networkAt m j) (stateAt m j) sight))
         (sym e) (taken-plays id sight j f t (has id n) refl);
     ticks = λ room g k. record {
       state = each-slot m tickState (sound .networks) (sound .states) i h;

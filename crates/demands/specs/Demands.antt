@@ -12,7 +12,7 @@ use Rattle.slots.specs.Manager.{networksOf}
 use Rattle.slots.specs.Calls.{start, tick, outcome}
 use Rattle.calls.specs.Histories.{Entry, History, Since, Reached}
 use Rattle.manager_theorems.specs.Careful.{allControllers}
-use Rattle.network_demands.specs.Words.{ticked, Answered, Delayed, OnJustThatTick, SaidFrom}
+use Rattle.network_demands.specs.Words.{ticked, Told, ToldNo, Answered, Delayed, LateAnswers, OnJustThatTick, SaidFrom}
 use Rattle.demands.specs.View.{viewOf, viewsOf}
 
 -- a manager that was just started: calls led to one with a sheet, and its start was accepted
@@ -26,14 +26,21 @@ pub record Begun (m₀ : Manager) : Type 0 where
 abbrev pub paperNeeds : Manager → ℕ
 paperNeeds m = 3 * (allControllers (networksOf m) + 2 * length (networksOf m))
 
--- the three sentences of demand 3, of one network; a tick that is lent the bytes it needs is accepted; `said-from` is the third again, by the mode
--- last told
+-- a tick that is lent the bytes it needs is accepted, and so is one of the network's
+abbrev pub TickTaken : ℕ → Network → Entry → Type 0
+TickTaken needs n t = (room : ℕ) → t .call ≡ tick room → needs ≤ room → ticked (viewOf n t) ≡ true
+
+-- exactly when one network is said to be full, and when no was told last; the three sentences of demand 3, the second also for late answers; a tick
+-- that is lent the bytes it needs is accepted; `said-from` is the third sentence again, by the mode last told
 pub record Demand3 (m₀ : Manager) (n : Network) : Type 0 where
+  pub told-exactly : (m : Manager) (h : History) → Since m₀ m h → Told n (viewsOf n h)
+  pub told-no : (m : Manager) (h : History) → Since m₀ m h → ToldNo n (viewsOf n h)
   pub answered : (m : Manager) (h : History) → Since m₀ m h → Answered n (viewsOf n h)
   pub delayed : (m : Manager) (s : History) (b : Entry) (h : History) →
       Since m₀ m (s ++ (b ∷ h)) → Delayed n (viewsOf n s) (viewOf n b) (viewsOf n h)
-  pub ticks : (m : Manager) (t : Entry) (h : History) → Since m₀ m (t ∷ h) → (room : ℕ) → t .call ≡ tick room → paperNeeds m₀ ≤ room
-      → ticked (viewOf n t) ≡ true
+  pub late-answers : (m : Manager) (s : History) (b : Entry) (h : History) →
+      Since m₀ m (s ++ (b ∷ h)) → LateAnswers n (viewsOf n s) (viewOf n b) (viewsOf n h)
+  pub ticks : (m : Manager) (t : Entry) (h : History) → Since m₀ m (t ∷ h) → TickTaken (paperNeeds m₀) n t
   pub on-just-that-tick : (m : Manager) (t : Entry) (s : History) (b : Entry) (h : History) → Since m₀ m (t ∷ (s ++ (b ∷ h)))
       → OnJustThatTick n (viewOf n t) (viewsOf n s) (viewOf n b) (viewsOf n h)
   pub said-from : (m : Manager) (s : History) (b : Entry) (h : History) → Since m₀ m (s ++ (b ∷ h))

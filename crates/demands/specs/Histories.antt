@@ -1,6 +1,6 @@
--- Histories of the product in which the premises of demand 3 hold, by computation on the definitions: told full after the start, after a short and
--- after a
--- long delay, with two controllers, and with a transceiver and partial networking.
+-- Histories of the product in which the premises of demand 3 hold, all of them, by computation on the definitions: told full after the start, after a
+-- short and after a long delay, with refused ticks in between, with a late answer, with two controllers, with a transceiver and partial networking,
+-- and of two networks.
 use Prim.Native.Nat.{ℕ, _+_}
 use mathlib.Core.Path.{_≡_, refl}
 use mathlib.Core.List.{List, [], _∷_, _++_}
@@ -14,7 +14,8 @@ use Rattle.slots.specs.Manager.{networkAt}
 use Rattle.slots.specs.Calls.{Call, read, start, request, busOff, answer, transceiverMode, clearDone, checkDone, tick, newManager, outcome, run}
 use Rattle.calls.specs.Histories.{Entry, entryOf, History, Since, goes}
 use Rattle.calls.specs.Computed.{computedOutcome}
-use Rattle.network_demands.specs.Words.{since, tally, ticked, toldBy, told, fell, fellUp, shut, delayAt}
+use Rattle.network_demands.specs.Words.{since, tally, ticked, toldBy, told, wanted, fell, shut, fellUp, falls, delayAt, waiting, fullAtTicks}
+use Rattle.network_demands.specs.Words.{promptly, saysNo, runs, firstRunning}
 use Rattle.demands.specs.View.{keep, viewOf, viewsOf}
 use Rattle.demands.specs.BenchCases.{down, up}
 
@@ -25,7 +26,7 @@ historyOf m (c ∷ cs) h = historyOf (outcome m c .manager) cs (entryOf m c ∷ 
 
 -- with all open that it takes to compute one, and what the words of demand 3 say of it
 unfoldable computedHistory : Manager → List Call → History → History
-unfolding computedOutcome historyOf keep targetsOf ownRecord since tally toldBy told
+unfolding computedOutcome historyOf keep targetsOf ownRecord since tally toldBy told wanted falls runs firstRunning waiting fullAtTicks promptly
 computedHistory m cs h = historyOf m cs h
 
 -- it is one of the calls since the start
@@ -46,33 +47,61 @@ lived sheet cs = historyOf (startedBy sheet) cs []
 abbrev toldAfter : List ℕ → List Call → ℕ
 toldAfter sheet cs = told (networkAt (startedBy sheet) 0) (viewsOf (networkAt (startedBy sheet) 0) (lived sheet cs))
 
--- what demand 3 speaks of, in a history that is `after` a bus-off `b` after `earlier`
+-- what demand 3 speaks of, in a history that is `after` a bus-off `b` after `earlier`: the premises, and what follows from them
 pub record Summary : Type 0 where
-  pub told : ℕ
   pub up-bus-off : Bool
   pub further-bus-off : Bool
   pub shutdown : Bool
+  pub full-wanted : Bool
+  pub prompt : Bool
+  pub not-ok : Bool
+  pub first-running : ℕ
+  pub told : ℕ
   pub ticks : ℕ
   pub due : ℕ
 
--- told is at the end of all; further-bus-off, shutdown and ticks are of what is after b; due is the delay of b plus two
+-- told is at the end of all; due is the delay of b plus two; all else but the first is of what is after b
 abbrev summaryOf : Network → History → Entry → History → Summary
 summaryOf n after b earlier =
     record {
-      told = Rattle.network_demands.specs.Words.told n (viewsOf n (after ++ (b ∷ earlier)));
-      up-bus-off = fellUp n (viewOf n b);
+      up-bus-off = fellUp n (viewOf n b) (viewsOf n earlier);
       further-bus-off = any fell (viewsOf n after);
       shutdown = any (shut n) (viewsOf n after);
+      full-wanted = fullAtTicks (viewsOf n after) (viewsOf n (b ∷ earlier));
+      prompt = promptly n (viewsOf n after);
+      not-ok = any (saysNo n) (viewsOf n after);
+      first-running = firstRunning n (viewsOf n after);
+      told = Rattle.network_demands.specs.Words.told n (viewsOf n (after ++ (b ∷ earlier)));
       ticks = tally ticked (viewsOf n after);
       due = delayAt n (viewsOf n (b ∷ earlier)) + 2;
     }
 
--- calls, a bus-off of controller 3, and calls after it
-abbrev summaryBy : List Call → List Call → Summary
-summaryBy before after =
-    let m = run (startedBy benchSheet) before in
-    let b = busOff 3 9 in
-    summaryOf (networkAt (startedBy benchSheet) 0) (historyOf (outcome m b .manager) after []) (entryOf m b) (lived benchSheet before)
+-- of the network in a slot, since the start of a manager with the sheet: calls, a bus-off, and calls after it
+abbrev summaryBy : List ℕ → ℕ → List Call → Call → List Call → Summary
+summaryBy sheet slot before b after =
+    let m = run (startedBy sheet) before in
+    summaryOf (networkAt (startedBy sheet) slot) (historyOf (outcome m b .manager) after []) (entryOf m b) (lived sheet before)
+
+-- a bus-off while up and good conditions since but for promptness, with the first tick before which all run, the mode told, the ticks and the tick
+-- that is due
+abbrev calmSummary : Bool → ℕ → ℕ → ℕ → ℕ → Summary
+calmSummary prompt first-running told ticks due =
+    record {
+      up-bus-off = true;
+      further-bus-off = false;
+      shutdown = false;
+      full-wanted = true;
+      prompt = prompt;
+      not-ok = false;
+      first-running = first-running;
+      told = told;
+      ticks = ticks;
+      due = due;
+    }
+
+-- with promptness too all run before the second tick
+abbrev goodSummary : ℕ → ℕ → ℕ → Summary
+goodSummary told ticks due = calmSummary true 2 told ticks due
 
 -- the calls from the start to step 5: down to step 0, up to step 4, and the ensure time of three ticks
 abbrev step5 : List Call
@@ -88,22 +117,40 @@ unfolding computedHistory
 full-after-the-start = refl
 
 -- ---- told full on the fourth tick after a bus-off, by the short delay, and not on the third
-pub full-after-the-short-delay : summaryBy step5 (restarted ++ (tick 9 ∷ tick 9 ∷ []))
-    ≡ record { told = 2; up-bus-off = true; further-bus-off = false; shutdown = false; ticks = 4; due = 4 }
+pub full-after-the-short-delay : summaryBy benchSheet 0 step5 (busOff 3 9) (restarted ++ (tick 9 ∷ tick 9 ∷ [])) ≡ goodSummary 2 4 4
 unfolding computedHistory
 full-after-the-short-delay = refl
 
 -- on the third tick after the bus-off silent is still told, where full is due on the fourth
-pub not-full-before : summaryBy step5 (restarted ++ (tick 9 ∷ []))
-    ≡ record { told = 1; up-bus-off = true; further-bus-off = false; shutdown = false; ticks = 3; due = 4 }
+pub not-full-before : summaryBy benchSheet 0 step5 (busOff 3 9) (restarted ++ (tick 9 ∷ [])) ≡ goodSummary 1 3 4
 unfolding computedHistory
 not-full-before = refl
 
+-- a tick that is refused, of 8 bytes, counts nowhere: one comes before each of the first ticks
+pub full-with-refused-ticks :
+    summaryBy benchSheet 0 step5 (busOff 3 9) (tick 8 ∷ tick 9 ∷ answer 3 1 1 ∷ tick 8 ∷ tick 9 ∷ tick 8 ∷ tick 9 ∷ tick 9 ∷ []) ≡ goodSummary 2 4 4
+unfolding computedHistory
+full-with-refused-ticks = refl
+
 -- ---- told full on the seventh tick after a second one, by the long delay
-pub full-after-the-long-delay : summaryBy (step5 ++ (busOff 3 9 ∷ restarted)) (restarted ++ (tick 9 ∷ tick 9 ∷ tick 9 ∷ tick 9 ∷ tick 9 ∷ []))
-    ≡ record { told = 2; up-bus-off = true; further-bus-off = false; shutdown = false; ticks = 7; due = 7 }
+pub full-after-the-long-delay :
+    summaryBy benchSheet 0 (step5 ++ (busOff 3 9 ∷ restarted)) (busOff 3 9) (restarted ++ (tick 9 ∷ tick 9 ∷ tick 9 ∷ tick 9 ∷ tick 9 ∷ []))
+    ≡ goodSummary 2 7 7
 unfolding computedHistory
 full-after-the-long-delay = refl
+
+-- ---- a late answer, after the third tick: all run before the fourth, and full is told on the sixth, not on the fifth
+abbrev late : List Call
+late = tick 9 ∷ tick 9 ∷ tick 9 ∷ answer 3 1 1 ∷ tick 9 ∷ tick 9 ∷ []
+
+pub full-after-a-late-answer : summaryBy benchSheet 0 step5 (busOff 3 9) (late ++ (tick 9 ∷ [])) ≡ calmSummary false 4 2 6 4
+unfolding computedHistory
+full-after-a-late-answer = refl
+
+-- on the fifth tick silent is still told
+pub not-full-before-the-late-delay : summaryBy benchSheet 0 step5 (busOff 3 9) late ≡ calmSummary false 4 1 5 4
+unfolding computedHistory
+not-full-before-the-late-delay = refl
 
 -- ---- two controllers, a transceiver and partial networking: handle 9, controllers 1 and 2, transceiver 4
 abbrev partialSheet : List ℕ
@@ -130,3 +177,40 @@ downAndUp =
 pub full-with-partial-networking : toldAfter partialSheet downAndUp ≡ 2
 unfolding computedHistory
 full-with-partial-networking = refl
+
+-- and after a bus-off of its second controller again, on the fourth tick
+pub full-again-with-partial-networking :
+    summaryBy partialSheet 0 downAndUp (busOff 2 9) ((tick 12 ∷ both 1) ++ (tick 12 ∷ tick 12 ∷ tick 12 ∷ [])) ≡ goodSummary 2 4 4
+unfolding computedHistory
+full-again-with-partial-networking = refl
+
+-- ---- two networks: that of the bench sheet, and one with handle 9 and controllers 1 and 2, without a transceiver
+abbrev sheetOfTwo : List ℕ
+sheetOfTwo =
+    benchSheet ++ (0x01 ∷ 0 ∷ 1 ∷ 9
+    ∷ 0x02 ∷ 0 ∷ 1 ∷ 1
+    ∷ 0x02 ∷ 0 ∷ 1 ∷ 2
+    ∷ 0x04 ∷ 0 ∷ 6 ∷ 0 ∷ 2 ∷ 0 ∷ 5 ∷ 0 ∷ 3
+    ∷ 0x05 ∷ 0 ∷ 1 ∷ 0
+    ∷ 0x06 ∷ 0 ∷ 1 ∷ 0 ∷ [])
+
+-- both go down to step 0; then the first comes up to step 4, and full is wanted of the second. A tick here needs 3 x (3 + 2 x 2) = 21 bytes
+abbrev firstUp : List Call
+firstUp =
+    (tick 21 ∷ answer 3 0 1 ∷ both 0) ++ (tick 21 ∷ answer 3 2 1 ∷ both 2) ++ (tick 21 ∷ request 7 2 ∷ tick 21 ∷ answer 3 0 1 ∷ tick
+    21 ∷ answer 3 1 1 ∷ tick 21 ∷ request 9 2 ∷ [])
+
+-- after a bus-off of the first the second comes up beside it, to step 4; a tick that is refused is among the calls
+abbrev secondUp : List Call
+secondUp = (tick 21 ∷ answer 3 1 1 ∷ both 0) ++ (tick 20 ∷ tick 21 ∷ both 1) ++ (tick 21 ∷ tick 21 ∷ [])
+
+-- the first is told full on the fourth tick
+pub full-beside-another : summaryBy sheetOfTwo 0 firstUp (busOff 3 9) secondUp ≡ goodSummary 2 4 4
+unfolding computedHistory
+full-beside-another = refl
+
+-- and after a bus-off of a controller of the second, that network is told full on the seventh: its threshold is 0
+pub full-of-the-second : summaryBy sheetOfTwo 1 (firstUp ++ (busOff 3 9 ∷ secondUp)) (busOff 2 9)
+    ((tick 21 ∷ both 1) ++ (tick 21 ∷ tick 21 ∷ tick 21 ∷ tick 21 ∷ tick 21 ∷ tick 21 ∷ [])) ≡ goodSummary 2 7 7
+unfolding computedHistory
+full-of-the-second = refl

@@ -1,5 +1,9 @@
 pub mod View
 pub mod BenchCases
 pub mod Demands
+pub mod Lives
+pub mod DemandsOneAndTwo
 pub mod WrongBoxes
 pub mod Histories
+pub mod Promises
+pub mod PromiseBreakers

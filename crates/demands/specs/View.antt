@@ -16,7 +16,7 @@ keep p (x ∷ l) = cond (p x) (x ∷ keep p l) (keep p l)
 abbrev pub viewOf : Network → Entry → Seen
 viewOf n e =
     record {
-      sight = seenAs n (eqb 0 (e .number)) (addressOf (e .call));
+      sight = seenAs n (addressOf (e .number) (e .call));
       accepted = eqb 0 (e .number);
       records = keep (ownRecord n) (e .records);
     }

@@ -1,47 +1,55 @@
 -- Wrong boxes that demand 3 rules out, by computation: for each a history that such a box would have, and the sentence of demand 3 that is false of
--- it. The
--- network is that of the bench sheet: handle 7, controller 3, delays 2 and 5, threshold 1. A history has the latest call first.
+-- it. The network is that of the bench sheet: handle 7, controller 3, delays 2 and 5, threshold 1. A history has the latest call first.
 use Prim.Native.Nat.{ℕ, _≤_}
 use native.Mathlib.Omega.{arith}
-use borrow.Author.Tests.{eqb-true}
-use mathlib.Core.Path.{_≡_, refl, sym, subst, _∙_}
+use mathlib.Core.Path.{_≡_, refl, sym, _∙_}
 use mathlib.Core.List.{List, [], _∷_}
-use mathlib.Core.Bool.{Bool, true, false, _||_}
-use lib.Dec.{eqb}
-use Rattle.lists.specs.Lists.{any}
+use mathlib.Core.Bool.{Bool, true, false, true≢false, false≢true}
+use Rattle.lists.specs.Lists.{any, every}
 use Rattle.records.specs.declared.Record.{Record}
 use Rattle.records.specs.Records.{handed}
 use Rattle.settings.specs.declared.Network.{Network}
 use Rattle.settings.specs.declared.Transceiver.{Transceiver}
-use Rattle.settings.specs.Settings.{controllersOf, member}
 use Rattle.network.specs.Parts.{Sight, aTick, aBusOff, anAnswer, aRequest}
-use Rattle.network_demands.specs.Words.{Seen, OwnHistory, since, tally, setback, toldBy, told, wanted, runs, waiting, Prompt, FullAtTicks}
-use Rattle.network_demands.specs.Words.{GoodConditions}
-use Rattle.network_demands.specs.Words.{Answered, Delayed, SaidFrom}
+use Rattle.handing.specs.Handing.{targetsOf, ownRecord}
+use Rattle.slots.specs.Calls.{Call, request, answer, tick}
+use Rattle.calls.specs.Histories.{Entry, History}
+use Rattle.network_demands.specs.Words.{Seen, OwnHistory, since, tally, setback, toldBy, told, wanted, wantedAtTick, falls, owed, runs, firstRunning}
+use Rattle.network_demands.specs.Words.{waiting, fullAtTicks, promptly, Told, ToldNo, Answered, Delayed, LateAnswers, OnJustThatTick, SaidFrom}
+use Rattle.demands.specs.View.{keep, viewsOf}
+use Rattle.demands.specs.Demands.{TickTaken}
 
--- as the bench sheet says it: beside the numbers above, ensure time 3, no transceiver, no partial networking
-abbrev pub network : Network
-network =
+-- as the bench sheet says it, but for the controllers, the transceiver and partial networking: beside the numbers above, ensure time 3
+abbrev pub networkWith : ℕ → List ℕ → Transceiver → Bool → Network
+networkWith count controllers transceiver partial =
     record {
       handle = 7;
-      count = 1;
-      controllers = 3 ∷ 0 ∷ 0 ∷ 0 ∷ [];
-      transceiver = Transceiver.Absent;
+      count = count;
+      controllers = controllers;
+      transceiver = transceiver;
       short = 2;
       long = 5;
       ensure = 3;
       threshold = 1;
-      partial = false;
+      partial = partial;
     }
 
--- ---- entries of accepted calls
+-- with controller 3, without a transceiver
+abbrev pub network : Network
+network = networkWith 1 (3 ∷ 0 ∷ 0 ∷ 0 ∷ []) Transceiver.Absent false
+
+-- ---- entries
 
 -- a call that was accepted, with the records that the box handed out on it
-abbrev taken : Sight → List Record → Seen
+abbrev pub taken : Sight → List Record → Seen
 taken sight records = record { sight = sight; accepted = true; records = records }
 
+-- a call that was refused
+abbrev pub refused : Sight → Seen
+refused sight = record { sight = sight; accepted = false; records = [] }
+
 -- a tick
-abbrev ticks : List Record → Seen
+abbrev pub ticks : List Record → Seen
 ticks records = taken aTick records
 
 -- a tick that asks controller 3 to start: kind 1, argument 1
@@ -69,96 +77,161 @@ abbrev waits : Seen
 waits = ticks (handed 3 3 1 ∷ [])
 
 -- B3: a bus-off of controller 3 while up
-abbrev falls : Seen
-falls = taken aBusOff (handed 8 7 1 ∷ handed 6 7 1 ∷ handed 7 7 3 ∷ [])
+abbrev busOff : Seen
+busOff = taken aBusOff (handed 8 7 1 ∷ handed 6 7 1 ∷ handed 7 7 3 ∷ [])
+
+-- a bus-off that is accepted, and hands out nothing
+abbrev quietBusOff : Seen
+quietBusOff = taken aBusOff []
 
 -- a bus-off that is refused with 22
 abbrev refusedBusOff : Seen
-refusedBusOff = record { sight = aBusOff; accepted = false; records = [] }
+refusedBusOff = refused aBusOff
 
 -- the network came up and is full
-abbrev up : OwnHistory
-up = tellsFull ∷ answers ∷ asks ∷ wants 2 ∷ []
+abbrev cameUp : OwnHistory
+cameUp = tellsFull ∷ answers ∷ asks ∷ wants 2 ∷ []
+
+-- the mode last told, with all open that it takes to compute what the words say
+unfoldable pub computedWords : Network → OwnHistory → ℕ
+unfolding any every since tally toldBy told wanted wantedAtTick falls owed runs firstRunning waiting fullAtTicks promptly
+computedWords n h = told n h
+
+-- ---- exactly when full is told
+module _ where
+  -- it stops the controllers while full is told, without 7 no: no was wanted at the last tick
+  pub stops-while-full : Told network (ticks (handed 1 3 0 ∷ []) ∷ wants 0 ∷ cameUp) → ⊥
+  unfolding computedWords
+  stops-while-full = true≢false
+
+  -- it tells full after the delay though silent is wanted
+  pub full-though-silent : Told network (tellsFull ∷ ticks [] ∷ waits ∷ answers ∷ asks ∷ wants 1 ∷ busOff ∷ cameUp) → ⊥
+  unfolding computedWords
+  full-though-silent = true≢false
+
+  -- it tells full a tick late, coming up: all run before the second tick
+  pub full-a-tick-late : Told network (ticks [] ∷ answers ∷ asks ∷ wants 2 ∷ []) → ⊥
+  unfolding computedWords
+  full-a-tick-late told = false≢true told
+
+  -- it tells silent before it has ever told full: a shutdown while coming up
+  pub silent-before-full : ToldNo network (ticks (handed 7 7 0 ∷ handed 6 7 1 ∷ handed 1 3 0 ∷ []) ∷ wants 0 ∷ asks ∷ wants 2 ∷ []) → ⊥
+  unfolding computedWords
+  silent-before-full told = false≢true told
 
 -- ---- the first sentence
 module _ where
   not-running : (h : OwnHistory) → told network h ≡ 2 → runs 3 (since (setback network) h) ≡ false → Answered network h → ⊥
   unfolding any
-  not-running h t r a = let z : true ≡ false = sym (a t 3 refl) ∙ r in (let y : _≡_ {A = ℕ} 0 1 = cc in omega arith)
+  not-running h t r a = false≢true (sym r ∙ a t 3 refl)
 
   -- E14: it keeps the answers over a bus-off: a second one comes after the answer, and full is told without a new one
-  pub answers-kept : Answered network (tellsFull ∷ ticks [] ∷ waits ∷ falls ∷ answers ∷ asks ∷ falls ∷ up) → ⊥
-  unfolding any told toldBy since runs
-  answers-kept = not-running (tellsFull ∷ ticks [] ∷ waits ∷ falls ∷ answers ∷ asks ∷ falls ∷ up) refl refl
+  pub answers-kept : Answered network (tellsFull ∷ ticks [] ∷ waits ∷ busOff ∷ answers ∷ asks ∷ busOff ∷ cameUp) → ⊥
+  unfolding computedWords
+  answers-kept = not-running (tellsFull ∷ ticks [] ∷ waits ∷ busOff ∷ answers ∷ asks ∷ busOff ∷ cameUp) refl refl
 
   -- it keeps the answers over a bus-off in step 3, which hands out nothing
-  pub answers-kept-in-step-3 : Answered network (tellsFull ∷ asks ∷ taken aBusOff [] ∷ answers ∷ asks ∷ wants 2 ∷ []) → ⊥
-  unfolding any told toldBy since runs
-  answers-kept-in-step-3 = not-running (tellsFull ∷ asks ∷ taken aBusOff [] ∷ answers ∷ asks ∷ wants 2 ∷ []) refl refl
+  pub answers-kept-in-step-3 : Answered network (tellsFull ∷ asks ∷ quietBusOff ∷ answers ∷ asks ∷ wants 2 ∷ []) → ⊥
+  unfolding computedWords
+  answers-kept-in-step-3 = not-running (tellsFull ∷ asks ∷ quietBusOff ∷ answers ∷ asks ∷ wants 2 ∷ []) refl refl
 
   -- it goes on without an answer: the controller was asked to start, and full is told on the next tick
   pub full-without-an-answer : Answered network (tellsFull ∷ asks ∷ wants 2 ∷ []) → ⊥
-  unfolding any told toldBy since runs
+  unfolding computedWords
   full-without-an-answer = not-running (tellsFull ∷ asks ∷ wants 2 ∷ []) refl refl
 
   -- E16: it says full while the controllers are being stopped: 7 no, and no 6 silent
-  pub told-stays-full : Answered network (ticks (handed 7 7 0 ∷ handed 1 3 0 ∷ []) ∷ wants 0 ∷ up) → ⊥
-  unfolding any told toldBy since runs
-  told-stays-full = not-running (ticks (handed 7 7 0 ∷ handed 1 3 0 ∷ []) ∷ wants 0 ∷ up) refl refl
+  pub told-stays-full : Answered network (ticks (handed 7 7 0 ∷ handed 1 3 0 ∷ []) ∷ wants 0 ∷ cameUp) → ⊥
+  unfolding computedWords
+  told-stays-full = not-running (ticks (handed 7 7 0 ∷ handed 1 3 0 ∷ []) ∷ wants 0 ∷ cameUp) refl refl
 
   -- it takes a bus-off that it refuses with 22, coming up, for no bus-off: the answer from before it counts
   pub refused-bus-off-forgotten : Answered network (tellsFull ∷ refusedBusOff ∷ answers ∷ asks ∷ wants 2 ∷ []) → ⊥
-  unfolding any told toldBy since runs
+  unfolding computedWords
   refused-bus-off-forgotten = not-running (tellsFull ∷ refusedBusOff ∷ answers ∷ asks ∷ wants 2 ∷ []) refl refl
+
+  -- of two controllers, 3 and 4, it asks only the first, and takes its answer for both
+  pub second-not-asked : Answered (networkWith 2 (3 ∷ 4 ∷ 0 ∷ 0 ∷ []) Transceiver.Absent false) (tellsFull ∷ answers ∷ asks ∷ wants 2 ∷ []) → ⊥
+  unfolding computedWords
+  second-not-asked a = false≢true (a refl 4 refl)
+
+-- an entry of the manager's history: a call, the number of its answer, the records handed out
+abbrev entry : Call → ℕ → List Record → Entry
+entry call number records = record { call = call; number = number; mode = 0; records = records }
+
+-- such a history in which the network came up and is full
+abbrev cameUpByCalls : History
+cameUpByCalls =
+    entry (tick 9) 0 (tellsFull .records) ∷ entry (answer 3 1 1) 0 [] ∷ entry (tick 9) 0 (asks .records) ∷ entry (request 7 2) 0 [] ∷ []
+
+module _ where
+  -- it accepts a bus-off that is lent 8 bytes, hands out nothing, and does not restart the controllers: full stays told
+  pub short-bus-off-forgotten : Answered network (viewsOf network (entry (Call.busOff 3 8) 0 [] ∷ cameUpByCalls)) → ⊥
+  unfolding computedWords keep ownRecord targetsOf
+  short-bus-off-forgotten a = false≢true (a refl 3 refl)
+
+  -- it refuses a bus-off with 20 though 9 bytes are lent: full stays told
+  pub room-denied : Answered network (viewsOf network (entry (Call.busOff 3 9) 0x20 [] ∷ cameUpByCalls)) → ⊥
+  unfolding computedWords keep ownRecord targetsOf
+  room-denied a = false≢true (a refl 3 refl)
 
 -- ---- the second sentence
 module _ where
   -- it tells full on the tick before: the third after the bus-off, where the delay of 2 and two are four
-  pub full-on-the-tick-before : Delayed network (tellsFull ∷ waits ∷ answers ∷ asks ∷ []) falls up → ⊥
-  unfolding any told toldBy since tally
+  pub full-on-the-tick-before : Delayed network (tellsFull ∷ waits ∷ answers ∷ asks ∷ []) busOff cameUp → ⊥
+  unfolding computedWords
   full-on-the-tick-before d = let z : 4 ≤ 3 = d refl refl refl refl in omega arith
 
   -- E17: it takes leaving for silent as the all-clear: the second bus-off since passed, which exceeds the threshold, brings the short delay
-  pub silent-clears : Delayed network (tellsFull ∷ ticks [] ∷ waits ∷ answers ∷ asks ∷ []) falls
-      (tellsFull ∷ wants 2 ∷ tellsSilent ∷ wants 1 ∷ tellsFull ∷ ticks [] ∷ waits ∷ answers ∷ asks ∷ falls ∷ up) → ⊥
-  unfolding any told toldBy since tally
+  pub silent-clears : Delayed network (tellsFull ∷ ticks [] ∷ waits ∷ answers ∷ asks ∷ []) busOff
+      (tellsFull ∷ wants 2 ∷ tellsSilent ∷ wants 1 ∷ tellsFull ∷ ticks [] ∷ waits ∷ answers ∷ asks ∷ busOff ∷ cameUp) → ⊥
+  unfolding computedWords
   silent-clears d = let z : 7 ≤ 4 = d refl refl refl refl in omega arith
 
+  -- it leaves the records of a bus-off out, 7 bus-off too, and the delay with them: full on the second tick
+  pub no-delay-without-records : Delayed network (tellsFull ∷ answers ∷ asks ∷ []) quietBusOff cameUp → ⊥
+  unfolding computedWords
+  no-delay-without-records d = let z : 4 ≤ 2 = d refl refl refl refl in omega arith
+
+  -- a second bus-off, which comes in step 7 and hands out nothing, cancels the delay
+  pub delay-cancelled : Delayed network (tellsFull ∷ answers ∷ asks ∷ []) quietBusOff (waits ∷ answers ∷ asks ∷ busOff ∷ cameUp) → ⊥
+  unfolding computedWords
+  delay-cancelled d = let z : 7 ≤ 2 = d refl refl refl refl in omega arith
+
+  -- where the answer is late it takes the delay from the bus-off on: all run before the fourth tick, and full is told on the fifth
+  pub delay-from-the-bus-off : LateAnswers network (tellsFull ∷ waits ∷ answers ∷ asks ∷ asks ∷ asks ∷ []) busOff cameUp → ⊥
+  unfolding computedWords
+  delay-from-the-bus-off late = true≢false (late refl refl refl .0)
+
+  -- it idles where the answer is late: all run before the third tick, and on the fifth full is not told
+  pub idles-after-a-late-answer : LateAnswers network (ticks [] ∷ ticks [] ∷ waits ∷ answers ∷ asks ∷ asks ∷ []) busOff cameUp → ⊥
+  unfolding computedWords
+  idles-after-a-late-answer late = false≢true (late refl refl refl .0)
+
 -- ---- the third sentence
--- four ticks after a bus-off
+-- three ticks after a bus-off, and the fourth
+abbrev three : OwnHistory
+three = ticks [] ∷ waits ∷ answers ∷ asks ∷ []
+
 abbrev Four : Seen → OwnHistory
-Four fourth = fourth ∷ ticks [] ∷ waits ∷ answers ∷ asks ∷ []
-
--- only controller 3
-only : (c : ℕ) → member c (controllersOf network) ≡ true → c ≡ 3
-unfolding any
-only c e = sym (eqb-true 3 c (or-left (eqb 3 c) e)) where
-  or-left : (b : Bool) → b || false ≡ true → b ≡ true
-  or-left true p = refl
-  or-left false p = p
-
--- four ticks with good conditions after a bus-off
-good : GoodConditions network (Four (ticks [])) (falls ∷ up)
-unfolding any wanted waiting Prompt FullAtTicks
-good =
-    record {
-      full = (λ t. refl, (λ t. refl, (λ t. refl, (λ t. refl, (λ t. refl, tt)))));
-      prompt = (
-        λ t c m. subst (λ (c : ℕ). waiting c (ticks [] ∷ waits ∷ answers ∷ asks ∷ []) ≡ false) (sym (only c m)) refl,
-        (
-          λ t c m. subst (λ (c : ℕ). waiting c (waits ∷ answers ∷ asks ∷ []) ≡ false) (sym (only c m)) refl,
-          (
-            λ t c m. subst (λ (c : ℕ). waiting c (answers ∷ asks ∷ []) ≡ false) (sym (only c m)) refl,
-            (λ t c m. absurd (let z : _≡_ {A = ℕ} 0 1 = cc in omega arith), (λ t c m. refl, tt)),
-          ),
-        ),
-      );
-      only-ok = refl;
-      calm = refl;
-    }
+Four fourth = fourth ∷ three
 
 module _ where
   -- E15: the long delay begins where the count equals the threshold, or it idles after the first tick: on the fourth tick full is not told
-  pub not-told : SaidFrom network (Four (ticks [])) falls up → ⊥
-  unfolding any told toldBy since tally
-  not-told said = let z : _≡_ {A = ℕ} 1 2 = said refl good in omega arith
+  pub not-told : SaidFrom network (Four (ticks [])) busOff cameUp → ⊥
+  unfolding computedWords
+  not-told said = let z : _≡_ {A = ℕ} 1 2 = said refl (record { full = refl; prompt = refl; only-ok = refl; calm = refl }) in omega arith
+
+  -- the same by what the fourth tick hands out
+  pub not-on-that-tick : OnJustThatTick network (ticks []) three busOff cameUp → ⊥
+  unfolding computedWords
+  not-on-that-tick just = false≢true (just refl (record { full = refl; prompt = refl; only-ok = refl; calm = refl }) refl)
+
+  -- it says full once more on the fifth tick
+  pub full-said-twice : OnJustThatTick network tellsFull (Four tellsFull) busOff cameUp → ⊥
+  unfolding computedWords
+  full-said-twice just = true≢false (just refl (record { full = refl; prompt = refl; only-ok = refl; calm = refl }) refl)
+
+  -- it refuses a tick that has the bytes it needs
+  pub tick-refused : TickTaken 9 network (entry (tick 9) 0x20 []) → ⊥
+  tick-refused taken = false≢true (taken 9 refl (omega arith))

@@ -10,6 +10,7 @@ pub use grammar::fill_network;
 pub use grammar::open_network;
 use settings::Network;
 pub use values::entry_at;
+pub use values::next_entry;
 
 // Why a sheet is refused.
 pub enum Fault {

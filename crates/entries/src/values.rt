@@ -4,6 +4,7 @@ use crate::Fault;
 use crate::FoundEntry;
 use crate::Layout;
 use fields::Field;
+use fields::Reader;
 ghost use mathlib.Core.Path.{_≡_};
 ghost use Prim.Native.Nat.{_+_, _≤_};
 ghost use lib.ListN.{length, take, drop};
@@ -123,4 +124,11 @@ pub fn entry_at(bytes: &[u8], at: usize) -> FoundEntry
             FoundEntry { entry, next }
         }
     }
+}
+
+// What stands at the place of a reader of a sheet.
+pub fn next_entry<'a>(reader: Reader<'a>) -> FoundEntry
+    ensures { λ r. ⌜ ReadAt entryAt (now (reader .entry .bytes)) (reader .entry .place) (r .entry) (r .next) ⌝ }
+{
+    entry_at(reader.bytes, reader.place)
 }

@@ -1,3 +1,4 @@
 pub mod Laws
 pub mod Through
 pub mod Begin
+pub mod Calls

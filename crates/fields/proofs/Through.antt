@@ -1,10 +1,10 @@
 -- One walk for every function that takes a `Reader` apart and calls another on its bytes and its place: of whatever type R the answer is, it meets
 -- the contract that the callee meets.
---     answer           the answer, of the bytes and the place
+--     Found s at r     what is said of an answer r, of the bytes s and the place
 --     Typed R τ        the answer is of the MIR type τ
 --     function τ name  the MIR: the two fields are read, and `name` is called on them
---     StepAt           the callee's contract: r ≡ answer bytes at
---     through          the function meets its own, r ≡ answer (reader .bytes) (reader .place), where the callee meets `StepAt`
+--     StepAt           the callee's contract: Found bytes at r
+--     through          the function meets its own, Found (reader .bytes) (reader .place) r, where the callee meets `StepAt`
 -- The struct is Copy: what it owns is had twice, one copy is kept whole for the exit, and of the other what bytes owns goes to the callee, beside
 -- the lifetime's token, which comes back.
 use Rattle.lists.proofs.Basics.{_≡_, refl, ℕ, _<_, List, [], _∷_, length, _^_}
@@ -70,7 +70,7 @@ function τ name = record {
       (seq (call name (copy (place 2 []) ∷ copy (place 3 []) ∷ []) (place 0 [])) return));
 }
 
-module _ (R : RattleType) (answer : List ℕ → ℕ → R .Denot) where
+module _ (R : RattleType) (Found : List ℕ → ℕ → R .Denot → Type 0) where
   -- the signatures and the clauses, of the function and of its callee
   abbrev pub this : Ended
   this = record { signature = record { lifetimes = 1; outlives = []; params = plain B ∷ []; result = plain (λ κs. R) }; kept = (yes, tt) }
@@ -88,10 +88,10 @@ module _ (R : RattleType) (answer : List ℕ → ℕ → R .Denot) where
       }
 
   abbrev pub this-clauses : {M : Type 1} (𝓤 : URA M) → Clauses 𝓤 this
-  this-clauses 𝓤 κs a = record { ghost = Unit {0}; requires = λ g. emp 𝓤; ensures = λ g r e. fact 𝓤 (r ≡ answer (now (a .0 .bytes)) (a .0 .place)) }
+  this-clauses 𝓤 κs a = record { ghost = Unit {0}; requires = λ g. emp 𝓤; ensures = λ g r e. fact 𝓤 (Found (now (a .0 .bytes)) (a .0 .place) r) }
 
   abbrev step-clauses : {M : Type 1} (𝓤 : URA M) → Clauses 𝓤 step
-  step-clauses 𝓤 κs a = record { ghost = Unit {0}; requires = λ g. emp 𝓤; ensures = λ g r e. fact 𝓤 (r ≡ answer (now (a .0)) (a .1 .0)) }
+  step-clauses 𝓤 κs a = record { ghost = Unit {0}; requires = λ g. emp 𝓤; ensures = λ g r e. fact 𝓤 (Found (now (a .0)) (a .1 .0) r) }
 
   abbrev stayed : Stays (this .signature .params) (this .kept)
   stayed = (stay-none B yes, tt)
@@ -109,8 +109,8 @@ module _ (R : RattleType) (answer : List ℕ → ℕ → R .Denot) where
     abbrev v : Val
     v = sliceVal (d .bytes .ptr) (length (d .bytes .now))
 
-    abbrev found : R .Denot
-    found = answer (now (d .bytes)) (d .place)
+    abbrev Said : R .Denot → Type 0
+    Said = Found (now (d .bytes)) (d .place)
 
     abbrev Post : Val → SProp 𝓤
     Post = walkOf 𝓤 H A this stayed (this-clauses 𝓤) .post (((κ, tt), (q, tt), tt, (d, tt), (mach ∷ [], tt)), tt)
@@ -154,10 +154,10 @@ module _ (R : RattleType) (answer : List ℕ → ℕ → R .Denot) where
         move ! (2 ∷ 0 ∷ []) $ use2 W (raw (StepAt 𝓤 H A .pre to)) asked $ frame ! $ done !)
 
     -- of the callee's `ensured`, the clause alone: it has no `&mut`, so what is said of last values is dropped
-    said : (r : R .Denot) → ent 𝓤 (ensured 𝓤 H A step (step-clauses 𝓤) (κ, tt) (d .bytes, (d .place, tt)) tt r) (fact 𝓤 (r ≡ found))
-    said r = exE 𝓤 _ (λ ws. snd∗ 𝓤 (sem 𝓤 H A (lasts step (κ, tt) (d .bytes, (d .place, tt)) ws)) (fact 𝓤 (r ≡ found)))
+    said : (r : R .Denot) → ent 𝓤 (ensured 𝓤 H A step (step-clauses 𝓤) (κ, tt) (d .bytes, (d .place, tt)) tt r) (fact 𝓤 (Said r))
+    said r = exE 𝓤 _ (λ ws. snd∗ 𝓤 (sem 𝓤 H A (lasts step (κ, tt) (d .bytes, (d .place, tt)) ws)) (fact 𝓤 (Said r)))
 
-    exits : (r : R .Denot) (u : Val) → r ≡ found → ent 𝓤 (⋆ 𝓤 H A (‵ (R .own r (u ∷ [])) ∷ (‵ (flft κ q) ⊛ ‵ ftrue) ∷ ‵ Own ∷ [])) (Post u)
+    exits : (r : R .Denot) (u : Val) → Said r → ent 𝓤 (⋆ 𝓤 H A (‵ (R .own r (u ∷ [])) ∷ (‵ (flft κ q) ⊛ ‵ ftrue) ∷ ‵ Own ∷ [])) (Post u)
     exits r u e =
         qed W (‵ (R .own r (u ∷ [])) ∷ (‵ (flft κ q) ⊛ ‵ ftrue) ∷ ‵ Own ∷ []) ∵
         suffices ! _ (ends-at 𝓤 H A this stayed (this-clauses 𝓤) W (((κ, tt), (q, tt), tt, (d, tt), (mach ∷ [], tt)), tt) u r (tt, tt) (tt, tt)) $
@@ -180,7 +180,7 @@ module _ (R : RattleType) (answer : List ℕ → ℕ → R .Denot) where
           (and-then ! (load ! (from ! (stop !)) (look ! 4 refl)) (and-then ! (load ! (from ! (stop !)) (look ! 2 refl)) (no-more !))) (λ u.
           use1 W (later (some (λ (r : R .Denot). ((‵ (flft κ q) ⊛ ‵ ftrue) ⊛ ‵ (R .own r (u ∷ []))) ⊛ raw
           (ensured 𝓤 H A step (step-clauses 𝓤) (κ, tt) (d .bytes, (d .place, tt)) tt r)))) (id⊢ 𝓤 _) $ await ! tt $ pick ! (λ r.
-          split ! $ move ! (1 ∷ []) $ use1 W (raw (fact 𝓤 (r ≡ found))) (said r) $ heard ! (r ≡ found) (λ e. split ! $ move ! (1 ∷ []) $
+          split ! $ move ! (1 ∷ []) $ use1 W (raw (fact 𝓤 (Said r))) (said r) $ heard ! (Said r) (λ e. split ! $ move ! (1 ∷ []) $
           -- [the result; the token; what the struct owns; _3; …; _2; …; _1; …; room for _0; …]
           peeks ! R (Is R) (shows 𝓤 H A R) r (u ∷ []) (λ is.
           land ! (from ! (stop !)) (init ! 9 refl (typed r u is)) $

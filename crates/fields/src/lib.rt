@@ -1,7 +1,7 @@
 // Fields of lent bytes, and a reader that keeps its place among them.
 ghost use mathlib.Core.Path.{_≡_};
-ghost use Prim.Native.Nat.{_+_, _-_, _*_};
-ghost use lib.ListN.{length, drop};
+ghost use Prim.Native.Nat.{_+_, _*_};
+ghost use lib.ListN.{drop};
 ghost use Rattle.fields.specs.Fields.{front};
 
 // What stands at a place of the bytes.
@@ -62,29 +62,12 @@ pub struct Reader<'a> {
     pub place: usize,
 }
 
-// How many bytes are left from a place on. Past the last byte there is none.
-pub fn left_at(bytes: &[u8], at: usize) -> usize
-    ensures { λ r. ⌜ r ≡ length (now (bytes .entry)) - at ⌝ }
-{
-    if bytes.len() <= at {
-        return 0;
-    }
-    bytes.len() - at
-}
-
 impl<'a> Reader<'a> {
     // A reader at the first byte.
     pub fn new(bytes: &'a [u8]) -> Reader<'a>
         ensures { λ r. ⌜ (r .bytes ≡ bytes .entry) × (r .place ≡ 0) ⌝ }
     {
         Reader { bytes, place: 0 }
-    }
-
-    // The field at the reader's place.
-    pub fn next_field(self) -> Field
-        ensures { λ f. ⌜ f ≡ front (self .entry .place) (drop (self .entry .place) (now (self .entry .bytes))) ⌝ }
-    {
-        field_at(self.bytes, self.place)
     }
 
     // The reader, moved on to a place.
@@ -95,19 +78,5 @@ impl<'a> Reader<'a> {
             bytes: self.bytes,
             place,
         }
-    }
-
-    // Where the reader is.
-    pub fn here(self) -> usize
-        ensures { λ n. ⌜ n ≡ self .entry .place ⌝ }
-    {
-        self.place
-    }
-
-    // How many bytes are left.
-    pub fn left(self) -> usize
-        ensures { λ n. ⌜ n ≡ length (now (self .entry .bytes)) - self .entry .place ⌝ }
-    {
-        left_at(self.bytes, self.place)
     }
 }

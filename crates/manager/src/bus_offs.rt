@@ -14,7 +14,7 @@ ghost use Rattle.slots.specs.Calls as calls;
 
 // What the network of a slot makes of it.
 fn bus_off_at(manager: Manager, at: usize, out: &mut [u8]) -> Outcome
-    requires { ⌜ 9 ≤ length (now out) ⌝ }
+    requires { ⌜ calls.busOffNeeds ≤ length (now out) ⌝ }
     ensures { λ r. ⌜ calls.SlotGives manager (Slot.At at) aBusOff (now (out .entry)) r (now (out .exit)) ⌝ }
 {
     let network = manager.network_at(at);
@@ -25,7 +25,7 @@ fn bus_off_at(manager: Manager, at: usize, out: &mut [u8]) -> Outcome
 }
 
 fn bus_off_started(manager: Manager, id: u8, out: &mut [u8]) -> Outcome
-    requires { ⌜ 9 ≤ length (now out) ⌝ }
+    requires { ⌜ calls.busOffNeeds ≤ length (now out) ⌝ }
     ensures { λ r. ⌜ calls.SlotGives manager (calls.slotOf manager (Id.OfController id)) aBusOff (now (out .entry)) r (now (out .exit)) ⌝ }
 {
     match slot_of(manager, Id::OfController(id)) {

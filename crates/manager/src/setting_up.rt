@@ -1,5 +1,4 @@
-// A new manager, its sheet and its start.
-use network::State;
+// A new manager and its sheet.
 use settings::Network;
 use settings::Settings;
 use sheet::Reading;
@@ -115,39 +114,5 @@ pub fn write(manager: Manager, buffer: &mut [u8]) -> Outcome
         Stage::Empty => Outcome::refuse(manager, Answer::NotReady),
         Stage::Loaded => write_sheet(manager, buffer),
         Stage::Started => write_sheet(manager, buffer),
-    }
-}
-
-// N7, N8: every network in its first down step.
-fn start_networks(manager: Manager) -> Manager
-    ensures { λ r. ⌜ r ≡ calls.startedFrom manager ⌝ }
-{
-    let count = manager.count;
-    let networks = manager.networks;
-    let mut states = manager.states;
-    let used = Settings::in_use(count);
-    let mut i: u8 = 0;
-    while i < used {
-        let network = networks[i as usize];
-        states[i as usize] = State::start(network);
-        i += 1;
-    }
-    Manager {
-        stage: Stage::Started,
-        count,
-        networks,
-        states,
-    }
-}
-
-// R7, R8, N9: starts the manager, and hands out nothing.
-pub fn start(manager: Manager) -> Outcome
-    ensures { λ r. ⌜ r ≡ calls.outcome manager calls.start ⌝ }
-{
-    let stage = manager.stage;
-    match stage {
-        Stage::Empty => Outcome::refuse(manager, Answer::NotReady),
-        Stage::Loaded => Outcome::accept(start_networks(manager)),
-        Stage::Started => Outcome::refuse(manager, Answer::Running),
     }
 }

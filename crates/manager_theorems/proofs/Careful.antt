@@ -11,9 +11,9 @@ use Rattle.slots.specs.declared.Slot.{Slot}
 use Rattle.slots.specs.declared.Answer.{Answer}
 use Rattle.slots.specs.declared.Manager.{Manager}
 use Rattle.slots.specs.declared.Outcome.{Outcome}
-use Rattle.slots.specs.Manager.{settingsOf, blankState, refused}
+use Rattle.slots.specs.Manager.{answerNumber, settingsOf, blankState, refused}
 use Rattle.slots.specs.Calls.{Call, byStage, slotOf, writingOf, allTicked, outcome, handedOut, bufferWith, writtenInto, Gives, Writes}
-use Rattle.calls.specs.Histories.{isAccepted, to, addressOf}
+use Rattle.calls.specs.Histories.{isAccepted, entryOf, to, addressOf}
 use Rattle.calls.proofs.ByCall.{ByCall, by-call}
 use Rattle.manager_theorems.specs.Careful.{Careful, LeavesOthers}
 
@@ -55,10 +55,15 @@ module _ (m : Manager) where
       by-stage Stage.Loaded e = by-room _ refl e
       by-stage Stage.Started e = by-room _ refl e
 
+  -- whom a call names goes by the number of its answer
+  abbrev NamedLeaves : Call → Outcome → List Record → Type 0
+  NamedLeaves c o rs = (id : Id) (sight : Sight) → addressOf (answerNumber (o .answer)) c ≡ to id sight → LeavesOthers m (slotOf m id) o
+
   -- a call that names an id leaves all slots alone but the one that it names
-  pub leaves-others : (c : Call) (id : Id) (sight : Sight) → addressOf c ≡ to id sight → LeavesOthers m (slotOf m id) (outcome m c)
+  pub leaves-others : (c : Call) (id : Id) (sight : Sight) →
+      addressOf (entryOf m c .number) c ≡ to id sight → LeavesOthers m (slotOf m id) (outcome m c)
   unfolding allTicked
-  leaves-others = by-call m (λ c o rs. (id : Id) (sight : Sight) → addressOf c ≡ to id sight → LeavesOthers m (slotOf m id) o) (record {
+  leaves-others = by-call m NamedLeaves (record {
     refuses = λ c a r f id sight e. record { networks = refl; count = refl; others = λ j n. refl };
     declines = λ c id sight i a n f d r id′ sight′ e. record { networks = refl; count = refl; others = λ j n. refl };
     takes = λ c id sight i n f t k id′ sight′ e. record {
@@ -74,6 +79,6 @@ module _ (m : Manager) where
     starts = λ s id sight e. absurd (let z : _≡_ {A = ℕ} 0 1 = cc in omega arith);
   })
     where
-      stored : (c : Call) (id : Id) (sight : Sight) (id′ : Id) (sight′ : Sight) (i j : ℕ) → addressOf c ≡ to id sight → addressOf c ≡ to id′ sight′
-          → slotOf m id ≡ Slot.At i → j ≡ i → slotOf m id′ ≡ Slot.At j
+      stored : (c : Call) (id : Id) (sight : Sight) (id′ : Id) (sight′ : Sight) (i j : ℕ) →
+          addressOf 0 c ≡ to id sight → addressOf 0 c ≡ to id′ sight′ → slotOf m id ≡ Slot.At i → j ≡ i → slotOf m id′ ≡ Slot.At j
       stored c id sight id′ sight′ i j p q s same = let z : id ≡ id′ = cc in ap (slotOf m) (sym z) ∙ s ∙ ap Slot.At (sym same)

@@ -1,4 +1,4 @@
--- R16: a tick needs three bytes for each controller of all networks, and six for each network.
+-- R16: a tick needs three bytes for each controller of all networks, and six for each network: never more than 144.
 use Rattle.lists.proofs.Basics.{_+_, _*_, _≤_, arith, _≡_, refl, List, [], _∷_, length, length-take}
 use Rattle.lists.proofs.Parts.{padded-length}
 use Rattle.settings.specs.declared.Network.{Network}
@@ -23,3 +23,18 @@ shares-paper (n ∷ ns) g = omega (arith, some-controller n (g .0), shares-paper
 pub tick-needs-paper : (m : Manager) → Sound m → tickNeeds m ≡ 3 * (allControllers (networksOf m) + 2 * length (networksOf m))
 unfolding tickNeeds
 tick-needs-paper m s = rw (shares-paper (networksOf m) (s .in-range)) refl
+
+-- ---- the most that a tick needs
+-- a network in range has at most four controllers
+few-controllers : (n : Network) → InRange n → length (controllersOf n) ≤ 4
+few-controllers n g = omega (arith, length-take (n .count) (n .controllers), g .few-controllers)
+
+shares-most : (ns : List Network) → EachInRange ns → shares ns ≤ 6 * length ns
+unfolding EachInRange shares
+shares-most [] g = omega arith
+shares-most (n ∷ ns) g = omega (arith, few-controllers n (g .0), shares-most ns (g .1))
+
+-- eight networks of four controllers: 48 records
+pub tick-needs-most : (m : Manager) → Sound m → tickNeeds m ≤ 144
+unfolding tickNeeds
+tick-needs-most m s = omega (arith, shares-most (networksOf m) (s .in-range), length-take (m .count) (m .networks), s .networks)

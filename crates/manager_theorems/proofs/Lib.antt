@@ -1,4 +1,3 @@
-pub mod Outcomes
 pub mod Careful
 pub mod Sound
 pub mod Counts

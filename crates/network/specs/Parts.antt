@@ -6,6 +6,7 @@ use mathlib.Core.Bool.{Bool, true, false, cond}
 use lib.Dec.{eqb, ltb}
 use Rattle.records.specs.declared.Mode.{Mode}
 use Rattle.records.specs.declared.Record.{Record}
+use Rattle.records.specs.Records.{modeNamed, byNamed}
 use Rattle.settings.specs.declared.Network.{Network}
 use Rattle.network.specs.declared.Hit.{Hit}
 use Rattle.network.specs.declared.Part.{Part}
@@ -48,9 +49,7 @@ wantedPart s mode = cond (mayWant (s .step) mode) (taken (wants s mode)) (declin
 
 -- R13: a request with the mode as a number, refused with 21 where it is none of the three
 unfoldable pub requestPart : State → ℕ → Part
-requestPart s mode =
-    cond (eqb mode 0) (wantedPart s Mode.No)
-    (cond (eqb mode 1) (wantedPart s Mode.Silent) (cond (eqb mode 2) (wantedPart s Mode.Full) (declined s Reply.OutOfRange)))
+requestPart s mode = byNamed (modeNamed mode) (wantedPart s) (declined s Reply.OutOfRange)
 
 -- R13, A1, A3: a mode that is reported and is none of 0 to 2
 abbrev pub outOfRange : Report → Bool

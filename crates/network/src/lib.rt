@@ -25,6 +25,13 @@ pub enum LastAnswer {
     Refused,
 }
 
+impl LastAnswer {
+    // The numbers that a controller answers with.
+    pub const REFUSED: u8 = 0;
+
+    pub const OKAY: u8 = 1;
+}
+
 pub struct Heard {
     pub answer: LastAnswer,
 }
@@ -85,13 +92,6 @@ pub enum Report {
     Transceiver(u8),
     Cleared,
     Checked,
-}
-
-impl Report {
-    // The largest number of a mode, and the number that says ok.
-    pub const MOST_MODE: u8 = 2;
-
-    pub const OK: u8 = 1;
 }
 
 impl Part {

@@ -1,4 +1,5 @@
 // What a network makes of a call that names it.
+use crate::LastAnswer;
 use crate::Part;
 use crate::Reply;
 use crate::Report;
@@ -6,7 +7,10 @@ use crate::State;
 use crate::answers::takes;
 use crate::answers::with_answer;
 use crate::answers::with_report;
+use records::ControllerMode;
 use records::Mode;
+use records::NamedMode;
+use records::TransceiverMode;
 use settings::Network;
 ghost use mathlib.Core.Path.{_≡_};
 ghost use Rattle.network.specs.Parts.{wantedPart, requestPart, outOfRange, takenPart, reportPart, answerPart};
@@ -26,16 +30,10 @@ fn want_mode(state: State, mode: Mode) -> Part
 pub fn request_part(state: State, mode: u8) -> Part
     ensures { λ r. ⌜ r ≡ requestPart state mode ⌝ }
 {
-    if mode == Mode::NO {
-        return want_mode(state, Mode::No);
+    match Mode::from_number(mode) {
+        NamedMode::Known(wanted) => want_mode(state, wanted),
+        NamedMode::Unknown => Part::decline(state, Reply::OutOfRange),
     }
-    if mode == Mode::SILENT {
-        return want_mode(state, Mode::Silent);
-    }
-    if mode == Mode::FULL {
-        return want_mode(state, Mode::Full);
-    }
-    Part::decline(state, Reply::OutOfRange)
 }
 
 // R13, A1, A3: a mode above 2 is reported.
@@ -43,8 +41,8 @@ fn is_out_of_range(report: Report) -> bool
     ensures { λ r. ⌜ r ≡ outOfRange report ⌝ }
 {
     match report {
-        Report::Controller(mode) => Report::MOST_MODE < mode,
-        Report::Transceiver(mode) => Report::MOST_MODE < mode,
+        Report::Controller(mode) => ControllerMode::MOST_NUMBER < mode,
+        Report::Transceiver(mode) => TransceiverMode::MOST_NUMBER < mode,
         Report::Cleared => false,
         Report::Checked => false,
     }
@@ -74,9 +72,9 @@ pub fn report_part(state: State, report: Report) -> Part
 pub fn answer_part(network: Network, state: State, id: u8, mode: u8, ok: u8) -> Part
     ensures { λ r. ⌜ r ≡ answerPart network state id mode ok ⌝ }
 {
-    if Report::OK < ok {
+    if LastAnswer::OKAY < ok {
         return Part::decline(state, Reply::OutOfRange);
     }
-    let after = with_answer(network, state, id, ok == Report::OK);
+    let after = with_answer(network, state, id, ok == LastAnswer::OKAY);
     take_report(state, Report::Controller(mode), after)
 }

@@ -1,329 +1,343 @@
--- Demand 3, third sentence: with full wanted at every tick, prompt answers that are only ok, and no further bus-off, full is told on just that tick.
-use Rattle.lists.proofs.Basics.{ℕ, zero, suc, _+_, _≤_, _<_, arith, eq-eqb, ne-eqb, eqb-true, leb-true, leb-false, le-leb, lt-leb, lt-ltb, ltb-false}
-use Rattle.lists.proofs.Basics.{_≡_, refl, sym, ap, subst, _∙_, List, [], _∷_, _++_, Bool, true, false, cond, _&&_, false≢true, true≢false, leb, ltb}
-use Rattle.lists.proofs.Basics.{eqb, take}
-use Rattle.lists.specs.Lists.{any, every}
+-- Demand 3, third sentence: with full wanted at every tick, prompt answers that are only ok, and no further bus-off, all run before the second tick,
+-- and so full is told on just the tick that the delay says.
+use Rattle.lists.proofs.Basics.{ℕ, zero, suc, _+_, _<_, arith, eq-eqb, ne-eqb, eqb-true, leb-true, leb-false, ltb-true, lt-leb, lt-ltb, ltb-false}
+use Rattle.lists.proofs.Basics.{_≡_, refl, sym, ap, subst, _∙_, [], _∷_, _++_, Bool, true, false, not, cond, _&&_, _||_, or-true, false≢true}
+use Rattle.lists.proofs.Basics.{true≢false, leb, ltb, eqb}
+use mathlib.Core.Bool.{and-true}
+use Rattle.lists.specs.Lists.{any}
+use Rattle.lists.proofs.Any.{any-append, and-both}
 use Rattle.records.specs.declared.Mode.{Mode}
-use Rattle.records.specs.Records.{modeNumber, controllerNumber}
+use Rattle.records.specs.Records.{modeNumber}
 use Rattle.settings.specs.declared.Network.{Network}
 use Rattle.settings.specs.Settings.{controllersOf, member}
 use Rattle.settings.specs.Good.{Distinct, InRange}
 use Rattle.steps.specs.declared.Step.{Step}
-use Rattle.steps.specs.declared.Step.the-variants.{NoCommunication, TransceiverNormal, ControllersStopped, ControllersStarted}
-use Rattle.steps.specs.declared.Step.the-variants.{Checking, Full, Restarting, Waiting, Silent}
-use Rattle.steps.specs.declared.Step.the-variants.{ClearWake, DownStopped, TransceiverStandby, ControllersSleep, CheckWake, CheckWakeAgain}
-use Rattle.steps.specs.declared.Ask.{Ask}
-use Rattle.steps.specs.declared.Outfit.{Outfit}
 use Rattle.steps.specs.declared.Move.{Move}
-use Rattle.steps.specs.declared.Move.the-variants.{AskAgain, Count, EnterFull, Wait}
-use Rattle.steps.specs.Steps.{asksFor}
-use Rattle.steps.specs.Decision.{risen, decision}
-use Rattle.steps.specs.After.{stepAfter}
-use Rattle.handing.specs.Handing.{moveRecords}
-use Rattle.network.specs.declared.Heard.{Heard}
-use Rattle.network.specs.declared.Report.{Report}
+use Rattle.steps.specs.Steps.{isFullStep}
+use Rattle.handing.specs.Handing.{recovery}
 use Rattle.network.specs.declared.State.{State}
-use Rattle.network.specs.State.{heard, blankAnswers, heardOf}
-use Rattle.network.specs.Rules.{isOkay, isRefusal, outfitOf, delayOf}
-use Rattle.network.specs.Moving.{toldAfter, countAfter, asksAfter, keepsAnswers, afterMove}
-use Rattle.network.specs.Answers.{awaits, takesReport, answerOf}
+use Rattle.network.specs.Moving.{toldAfter, afterMove}
 use Rattle.network.specs.BusOff.{madeAnew, afterHit}
-use Rattle.network.specs.Parts.{Sight, aTick, anAnswer}
-use Rattle.network_theorems.specs.Kept.{Kept}
-use Rattle.lists.proofs.Tests.{split}
-use Rattle.network_demands.specs.Words.{is, hands, Seen, OwnHistory, since, tally, isTick, isAnswer, ticked, fell, fellUp, cleared, delayAt}
-use Rattle.network_demands.specs.Words.{FullAtTicks, waiting, Prompt, saysNo, GoodConditions, OnJustThatTick, SaidFrom}
-use Rattle.network_demands.specs.Own.{finished, decides, reaches, tickAfter, tickHands, played, stateOf, Fits, Ran, Fit}
-use Rattle.network_demands.proofs.Views.{seen, heardState, by-part}
-use Rattle.network_demands.proofs.Tests.{finished-just, reaches-just}
-use Rattle.network_demands.proofs.Handed.{eqb-same, asks-each-to-start, isEnterFull, move-says-full}
-use Rattle.network_demands.proofs.First.{saidOkay, state-kept}
-use Rattle.network_demands.proofs.Slots.{any-member, okay-own, okay-other, all-okay}
-use Rattle.network_demands.proofs.Second.{never-first, never-rest, delay-begins, fell-up-recovers, follows, wanted-follows, told-follows}
+use Rattle.network_theorems.specs.Kept.{isFullMode}
+use Rattle.network_theorems.proofs.Moves.{ByMove}
+use Rattle.network_theorems.proofs.Kept.{lowered-not-full}
+use Rattle.network_demands.specs.Words.{hands, Seen, OwnHistory, since, never, tally, isAnswer, ticked, fell, shut, told, wanted, setback, up}
+use Rattle.network_demands.specs.Words.{fellUp, delayAt, askedToStart, runs, firstRunning, fullAtTicks, waiting, promptly, saysNo, wantedAtTick}
+use Rattle.network_demands.specs.Words.{GoodConditions, OnJustThatTick, SaidFrom}
+use Rattle.network_demands.specs.Own.{finished, decides, stateOf, Fits, Ran}
+use Rattle.network_demands.proofs.Views.{by-part, by-tick}
+use Rattle.network_demands.proofs.Handed.{isEnterFull, move-shuts, move-says-full}
+use Rattle.network_demands.proofs.Slots.{any-member, each-member}
+use Rattle.network_demands.proofs.Up.{says}
+use Rattle.network_demands.proofs.Follows.{state-kept, wanted-follows, told-follows}
+use Rattle.network_demands.proofs.Standing.{stands}
+use Rattle.network_demands.proofs.Turns.{goes-down}
+use Rattle.network_demands.proofs.Running.{first-stays, first-no-tick, first-tick, none-run}
+use Rattle.network_demands.proofs.Way.{starts-not-full}
+use Rattle.network_demands.proofs.Told.{full-mode-number, asked-by-tick, okay-accepted}
+use Rattle.network_demands.proofs.Second.{never-first, never-rest, since-on, since-bus-off, late-answers}
 
--- settings in range are fit
-pub range-fit : (n : Network) → InRange n → Fit n
-range-fit n g = record { short = g .short .0; long = g .long .0; threshold = omega (arith, g .threshold) }
+-- ---- the good conditions, by the last entry and those before it
+when : (a b : Bool) → cond a b true ≡ true → a ≡ true → b ≡ true
+when true b e q = e
+when false b e q = absurd (false≢true q)
 
--- ---- where the network stands since the bus-off, d being the delay, k the ticks since, and w saying which requests to start stand unanswered
--- step 6: before the first tick nothing was asked; after it, whoever is not waited for has answered ok
-abbrev Sent : Network → Bool → List Heard → ℕ → (ℕ → Bool) → Type 0
-Sent n false answers k w = k ≡ 0
-Sent n true answers k w = (k ≡ 1) × ((c : ℕ) → member c (controllersOf n) ≡ true → w c ≡ false → saidOkay n answers c ≡ true)
+full-more : (e : Seen) (s h : OwnHistory) → fullAtTicks (e ∷ s) h ≡ true → (ticked e ≡ true → wanted (s ++ h) ≡ 2) × (fullAtTicks s h ≡ true)
+unfolding fullAtTicks
+full-more e s h a =
+    let x = and-both (cond (ticked e) (eqb 2 (wanted (s ++ h))) true) _ a in
+    (λ t. sym (eqb-true 2 (wanted (s ++ h)) (when (ticked e) _ (x .0) t)), x .1)
 
-abbrev On : Network → ℕ → Step → Mode → Bool → List Heard → ℕ → ℕ → (ℕ → Bool) → Type 0
-On n d NoCommunication told asked answers count k w = ⊥
-On n d TransceiverNormal told asked answers count k w = ⊥
-On n d ControllersStopped told asked answers count k w = ⊥
-On n d ControllersStarted told asked answers count k w = ⊥
-On n d (Checking t) told asked answers count k w = (modeNumber told ≡ 2) × (d + 2 ≤ k)
-On n d Full told asked answers count k w = (modeNumber told ≡ 2) × (d + 2 ≤ k)
-On n d Restarting told asked answers count k w = (delayOf n count ≡ d) × (modeNumber told ≡ 1) × Sent n asked answers k w
-On n d (Waiting t) told asked answers count k w = (delayOf n count ≡ d) × (modeNumber told ≡ 1) × (k ≡ t + 2) × (t < d)
-On n d Silent told asked answers count k w = ⊥
-On n d ClearWake told asked answers count k w = ⊥
-On n d DownStopped told asked answers count k w = ⊥
-On n d TransceiverStandby told asked answers count k w = ⊥
-On n d ControllersSleep told asked answers count k w = ⊥
-On n d CheckWake told asked answers count k w = ⊥
-On n d CheckWakeAgain told asked answers count k w = ⊥
-
-abbrev OnState : Network → ℕ → State → OwnHistory → Type 0
-OnState n d s h = On n d (s .step) (s .told) (s .asked) (s .answers) (s .count) (tally ticked h) (λ (c : ℕ). waiting c h)
-
--- ---- a tick
--- what a move makes of it, and whether it is the move that tells full
-abbrev OnAfter : Network → ℕ → Step → Mode → Bool → List Heard → ℕ → ℕ → (ℕ → Bool) → Move → Type 0
-OnAfter n d step told asked answers count k w m =
-    ((c : ℕ) → any (is 1 c 1) (moveRecords n step told m) ≡ true → w c ≡ true) → On n d (stepAfter m step (n .partial)) (toldAfter m told)
-    (asksAfter m asked) (cond (keepsAnswers m) answers blankAnswers) (countAfter m count) (suc k) w × (isEnterFull m ≡ eqb (d + 2) (suc k))
-
--- below the largest number a tick count rises by one
-risen-one : (t : ℕ) → t < 65535 → risen t ≡ t + 1
-risen-one t l = rw (lt-ltb t 65535 l) refl
-
--- a tick that is not the one
-not-this : (d k : ℕ) → (d + 2 ≡ suc k → ⊥) → false ≡ eqb (d + 2) (suc k)
-not-this d k f = sym (ne-eqb (d + 2) (suc k) f)
-
--- what is awaited is one mode
-one-awaited : (ask : Ask) (mode : ℕ) (asked : Bool) →
-    cond asked (awaits ask (Report.Controller 1)) false ≡ true → cond asked (awaits ask (Report.Controller mode)) false ≡ true → 1 ≡ mode
-one-awaited ask mode false p q = absurd (false≢true p)
-one-awaited Ask.Nothing mode true p q = absurd (false≢true p)
-one-awaited (Ask.Controllers asked) mode true p q = sym (eqb-true (controllerNumber asked) 1 p) ∙ eqb-true (controllerNumber asked) mode q
-one-awaited (Ask.Transceiver asked) mode true p q = absurd (false≢true p)
-one-awaited Ask.ClearWake mode true p q = absurd (false≢true p)
-one-awaited Ask.CheckWake mode true p q = absurd (false≢true p)
-
--- an answer to the request to start that is not a no is an ok
-says-ok : (n : Network) (c mode ok : ℕ) → member c (controllersOf n) ≡ true → ltb 1 ok ≡ false → 1 ≡ mode
-    → saysNo n (seen (anAnswer c mode ok) true []) ≡ false → ok ≡ 1
-says-ok n c mode zero m l e y =
-    let no = any-member (λ (i : ℕ). isAnswer i 0 (anAnswer c mode 0) && true) c (controllersOf n) m (rw (eqb-same c, eq-eqb 1 mode e) refl) in
-    absurd (true≢false (sym no ∙ y))
-says-ok n c mode (suc zero) m l e y = refl
-says-ok n c mode (suc (suc ok)) m l e y = absurd (omega (arith, ltb-false 1 (suc (suc ok)) l))
-
-module _ (n : Network) (g : InRange n) (f : Distinct (controllersOf n)) (d : ℕ) (some : 1 ≤ d) (few : d < 65536) where
-  -- after the bus-off the first tick asks each controller to start; the second finds all of them ok
-  on-restarting : (told : Mode) (asked okay : Bool) (answers : List Heard) (count k : ℕ) (w w′ : ℕ → Bool)
-      → (((c : ℕ) → member c (controllersOf n) ≡ true → saidOkay n answers c ≡ true) → okay ≡ true)
-      → On n d Restarting told asked answers count k w → ((c : ℕ) → member c (controllersOf n) ≡ true → w c ≡ false)
-      → OnAfter n d Restarting told asked answers count k w′ (cond (cond asked okay false) Wait AskAgain)
-  unfolding moveRecords
-  on-restarting told false okay answers count k w w′ q o an sends = (
-    (o .0, o .1, (omega (arith, o .2), λ c m e. absurd (true≢false (sym (sends c (asks-each-to-start n c ∙ m)) ∙ e)))),
-    not-this d k (λ z. omega (arith, o .2)),
-  )
-  on-restarting told true true answers count k w w′ q o an sends =
-      ((o .0, o .1, omega (arith, o .2 .0), omega arith), not-this d k (λ z. omega (arith, o .2 .0)))
-  on-restarting told true false answers count k w w′ q o an sends = absurd (false≢true (q (λ c m. o .2 .1 c m (an c m))))
-
-  -- then each tick counts, up to the delay
-  on-waiting : (told : Mode) (asked : Bool) (answers : List Heard) (count k t : ℕ) (w w′ : ℕ → Bool) → On n d (Waiting t) told asked answers
-      count k w → OnAfter n d (Waiting t) told asked answers count k w′ (cond (leb (delayOf n count) (t + 1)) EnterFull (Count (Waiting (risen t))))
-  on-waiting told asked answers count k t w w′ o =
-      split (OnAfter n d (Waiting t) told asked answers count k w′) (leb (delayOf n count) (t + 1)) (λ e _. let l = leb-true (delayOf n count)
-      (t + 1) e in ((refl, omega (arith, o .0, o .2, o .3)), sym (eq-eqb (d + 2) (suc k) (omega (arith, o .0, o .2, o .3))))) (λ e _.
-      let l = leb-false (delayOf n count) (t + 1) e in
-      let r = risen-one t (omega (arith, o .0)) in
-      ((o .0, o .1, omega (arith, o .2), omega (arith, o .0)), not-this d k (λ z. omega (arith, o .0, o .2))))
-
-  -- a tick at which full is wanted and no request to start stands unanswered
-  on-move : (told : Mode) (asked done refused reached : Bool) (answers : List Heard) (count k : ℕ) (w w′ : ℕ → Bool) (outfit : Outfit) (step : Step)
-      → (step ≡ Restarting → done ≡ cond asked (every isOkay (take (n .count) answers)) false)
-      → ((t : ℕ) → step ≡ Waiting t → reached ≡ leb (delayOf n count) (t + 1))
-      → On n d step told asked answers count k w → ((c : ℕ) → member c (controllersOf n) ≡ true → w c ≡ false)
-      → OnAfter n d step told asked answers count k w′ (decision step Mode.Full done refused reached outfit)
-  unfolding decision
-  on-move told asked done refused reached answers count k w w′ outfit NoCommunication p r o an = absurd o
-  on-move told asked done refused reached answers count k w w′ outfit TransceiverNormal p r o an = absurd o
-  on-move told asked done refused reached answers count k w w′ outfit ControllersStopped p r o an = absurd o
-  on-move told asked done refused reached answers count k w w′ outfit ControllersStarted p r o an = absurd o
-  on-move told asked done refused reached answers count k w w′ outfit (Checking t) p r o an =
-      split (OnAfter n d (Checking t) told asked answers count k w′) reached
-      (λ _ _. ((o .0, omega (arith, o .1)), not-this d k (λ z. omega (arith, o .1))))
-      (λ _ _. ((o .0, omega (arith, o .1)), not-this d k (λ z. omega (arith, o .1))))
-  on-move told asked done refused reached answers count k w w′ outfit Full p r o an =
-      λ _. ((o .0, omega (arith, o .1)), not-this d k (λ z. omega (arith, o .1)))
-  on-move told asked done refused reached answers count k w w′ outfit Restarting p r o an =
-      subst (λ (b : Bool). OnAfter n d Restarting told asked answers count k w′ (cond b Wait AskAgain)) (sym (p refl))
-      (on-restarting told asked (every isOkay (take (n .count) answers)) answers count k w w′ (all-okay n g f answers) o an)
-  on-move told asked done refused reached answers count k w w′ outfit (Waiting t) p r o an =
-      subst (λ (b : Bool). OnAfter n d (Waiting t) told asked answers count k w′ (cond b EnterFull (Count (Waiting (risen t)))))
-      (sym (r t refl)) (on-waiting told asked answers count k t w w′ o)
-  on-move told asked done refused reached answers count k w w′ outfit Silent p r o an = absurd o
-  on-move told asked done refused reached answers count k w w′ outfit ClearWake p r o an = absurd o
-  on-move told asked done refused reached answers count k w w′ outfit DownStopped p r o an = absurd o
-  on-move told asked done refused reached answers count k w w′ outfit TransceiverStandby p r o an = absurd o
-  on-move told asked done refused reached answers count k w w′ outfit ControllersSleep p r o an = absurd o
-  on-move told asked done refused reached answers count k w w′ outfit CheckWake p r o an = absurd o
-  on-move told asked done refused reached answers count k w w′ outfit CheckWakeAgain p r o an = absurd o
-
-  -- ---- a call that hands out nothing
-  -- what it changes at most is who is waited for, and what has been answered
-  on-quiet : (told : Mode) (answers answers′ : List Heard) (count k : ℕ) (w w′ : ℕ → Bool) (step : Step) (asked : Bool)
-      → (cond asked (awaits (asksFor step) (Report.Controller 1)) false ≡ true
-      → (c : ℕ) → member c (controllersOf n) ≡ true → (w c ≡ false → saidOkay n answers c ≡ true) → w′ c ≡ false → saidOkay n answers′ c ≡ true)
-      → On n d step told asked answers count k w → On n d step told asked answers′ count k w′
-  on-quiet told answers answers′ count k w w′ NoCommunication asked q o = absurd o
-  on-quiet told answers answers′ count k w w′ TransceiverNormal asked q o = absurd o
-  on-quiet told answers answers′ count k w w′ ControllersStopped asked q o = absurd o
-  on-quiet told answers answers′ count k w w′ ControllersStarted asked q o = absurd o
-  on-quiet told answers answers′ count k w w′ (Checking t) asked q o = o
-  on-quiet told answers answers′ count k w w′ Full asked q o = o
-  on-quiet told answers answers′ count k w w′ Restarting false q o = o
-  on-quiet told answers answers′ count k w w′ Restarting true q o = (o .0, o .1, (o .2 .0, λ c m e. q refl c m (o .2 .1 c m) e))
-  on-quiet told answers answers′ count k w w′ (Waiting t) asked q o = o
-  on-quiet told answers answers′ count k w w′ Silent asked q o = absurd o
-  on-quiet told answers answers′ count k w w′ ClearWake asked q o = absurd o
-  on-quiet told answers answers′ count k w w′ DownStopped asked q o = absurd o
-  on-quiet told answers answers′ count k w w′ TransceiverStandby asked q o = absurd o
-  on-quiet told answers answers′ count k w w′ ControllersSleep asked q o = absurd o
-  on-quiet told answers answers′ count k w w′ CheckWake asked q o = absurd o
-  on-quiet told answers answers′ count k w w′ CheckWakeAgain asked q o = absurd o
-
-  module _ (h : OwnHistory) (s : State) (o : OnState n d s h) where
-    -- what is no tick and no answer that is taken
-    on-plain : (sight : Sight) (accepted : Bool) → isTick sight ≡ false →
-        ((c : ℕ) → member c (controllersOf n) ≡ true → isAnswer c 1 sight ≡ true → takesReport s (Report.Controller 1) ≡ false) → On n d (s .step)
-        (s .told) (s .asked) (s .answers) (s .count) (tally ticked (seen sight accepted [] ∷ h)) (λ (c : ℕ). waiting c (seen sight accepted [] ∷ h))
-    unfolding tally waiting any takesReport
-    on-plain sight accepted t deaf =
-        rw t (on-quiet (s .told) (s .answers) (s .answers) (s .count) (tally ticked h) (λ (c : ℕ). waiting c h) _ (s .step) (s .asked)
-        (λ q c m old e. by-test c m old (isAnswer c 1 sight) refl q e) o)
+prompt-more : (n : Network) (e : Seen) (s : OwnHistory) → promptly n (e ∷ s) ≡ true
+    → (ticked e ≡ true → (c : ℕ) → member c (controllersOf n) ≡ true → waiting c s ≡ false) × (promptly n s ≡ true)
+unfolding promptly
+prompt-more n e s a =
+    let x = and-both (cond (ticked e) (not (any (λ (c : ℕ). waiting c s) (controllersOf n))) true) _ a in
+    (λ t c m. none-waits c m (when (ticked e) _ (x .0) t), x .1)
+  where
+    none-waits : (c : ℕ) → member c (controllersOf n) ≡ true → not (any (λ (c : ℕ). waiting c s) (controllersOf n)) ≡ true → waiting c s ≡ false
+    none-waits c m e = by-test (waiting c s) refl
       where
-        by-test : (c : ℕ) → member c (controllersOf n) ≡ true → (waiting c h ≡ false → saidOkay n (s .answers) c ≡ true) → (b : Bool) → isAnswer
-            c 1 sight ≡ b → takesReport s (Report.Controller 1) ≡ true → cond b false (waiting c h) ≡ false → saidOkay n (s .answers) c ≡ true
-        by-test c m old true e q z = absurd (true≢false (sym q ∙ deaf c m e))
-        by-test c m old false e q z = old z
+        by-test : (b : Bool) → waiting c s ≡ b → b ≡ false
+        by-test true q = absurd (false≢true (sym (ap not (any-member (λ (c : ℕ). waiting c s) c (controllersOf n) m q)) ∙ e))
+        by-test false q = refl
 
-    -- an answer that is taken, and is no not ok: it is ok
-    on-hear : Kept n s → (c mode ok : ℕ) → member c (controllersOf n) ≡ true → ltb 1 ok ≡ false → takesReport s (Report.Controller mode) ≡ true
-        → saysNo n (seen (anAnswer c mode ok) true []) ≡ false
-        → On n d (s .step) (s .told) (s .asked) (heardState n s c ok .answers) (s .count) (tally ticked h)
-        (λ (i : ℕ). waiting i (seen (anAnswer c mode ok) true [] ∷ h))
-    unfolding waiting any takesReport
-    on-hear k c mode ok m l a y = on-quiet (s .told) (s .answers) _ (s .count) (tally ticked h) (λ (i : ℕ). waiting i h) _ (s .step) (s .asked)
-        (λ q i own old e. by-test i own old (eqb i c) refl q e) o
-      where
-        by-test : (i : ℕ) → member i (controllersOf n) ≡ true → (waiting i h ≡ false → saidOkay n (s .answers) i ≡ true) →
-            (b : Bool) → eqb i c ≡ b → cond (s .asked) (awaits (asksFor (s .step)) (Report.Controller 1)) false ≡ true →
-            cond (b && (eqb 1 mode && eqb 1 ok)) false (waiting i h) ≡ false → saidOkay n (heardState n s c ok .answers) i ≡ true
-        by-test i own old true e q z =
-            let one = says-ok n c mode ok m l (one-awaited (asksFor (s .step)) mode (s .asked) q a) y in
-            ap (saidOkay n (heardState n s c ok .answers)) (eqb-true i c e)
-            ∙ okay-own n s g k c (heard (answerOf (eqb ok 1))) m ∙ ap (λ (x : ℕ). isOkay (heard (answerOf (eqb x 1)))) one
-        by-test i own old false e q z = okay-other n (s .answers) i c (heard (answerOf (eqb ok 1))) e own m ∙ old z
+-- the good conditions of a history are those of its beginning
+shorter : (n : Network) (e : Seen) (s h : OwnHistory) → GoodConditions n (e ∷ s) h → GoodConditions n s h
+shorter n e s h i =
+    record {
+      full = full-more e s h (i .full) .1;
+      prompt = prompt-more n e s (i .prompt) .1;
+      only-ok = never-rest (saysNo n) e s (i .only-ok);
+      calm = never-rest fell e s (i .calm);
+    }
 
-    -- ---- all that is seen
-    -- with the conditions of its own entry it keeps where the network stands, and a tick tells full exactly if it is the one
-    abbrev Goes : Seen → State → Type 0
-    Goes e t = fell e ≡ false → saysNo n e ≡ false → (ticked e ≡ true → (c : ℕ) → member c (controllersOf n) ≡ true → waiting c h ≡ false)
-        → (ticked e ≡ true → s .wanted ≡ Mode.Full)
-        → OnState n d t (e ∷ h) × (ticked e ≡ true → hands 6 (n .handle) 2 e ≡ eqb (d + 2) (tally ticked (e ∷ h)))
+-- ---- shutdowns
+-- only where no is wanted does a tick begin a shutdown, and nothing else does
+shut-when-no : (n : Network) → InRange n → (e : Seen) (h : OwnHistory) → Ran n (e ∷ h) → shut n e ≡ true
+    → (ticked e ≡ true) × (fell e ≡ false) × (eqb 0 (wanted h) ≡ true)
+unfolding Ran any recovery
+shut-when-no n g e h r = by-part n s (λ e t. shut n e ≡ true → (ticked e ≡ true) × (fell e ≡ false) × (eqb 0 (wanted h) ≡ true)) (record {
+  plain = λ sight accepted mode reported p z. absurd (false≢true z);
+  hears = λ c mode ok m l t z. absurd (false≢true z);
+  recovers = λ u z. absurd (false≢true z);
+  restarts = λ u a z. absurd (false≢true z);
+  not-taken = λ u a z. absurd (false≢true z);
+  ticks = λ z.
+      let no = and-both (eqb 0 (modeNumber (s .wanted))) _
+      (sym (goes-down n s (stands n g h (r .1) .suited) (state-kept n g h (r .1))) ∙ sym (move-shuts n (s .step) _ (decides n s)) ∙ z) .0 in
+      (refl, refl, rw (← wanted-follows n h (r .1)) no);
+}) e (r .0)
+  where
+    s : State
+    s = stateOf n h
 
-    -- a tick
-    on-tick : ((c : ℕ) → member c (controllersOf n) ≡ true → waiting c h ≡ false) → s .wanted ≡ Mode.Full → OnState n d
-        (tickAfter n s) (seen aTick true (tickHands n s) ∷ h) × (any (is 6 (n .handle) 2) (tickHands n s) ≡ eqb (d + 2) (suc (tally ticked h)))
-    unfolding tally waiting afterMove
-    on-tick an full = let x = after (λ c q. rw q refl) in (x .0, move-says-full n (s .step) (s .told) (decides n s) ∙ x .1)
-      where
-        waits : ℕ → Bool
-        waits c = waiting c (seen aTick true (tickHands n s) ∷ h)
+-- where full is wanted at every tick no shutdown begins
+full-shuts-not : (n : Network) → InRange n → (e : Seen) (h : OwnHistory) → Ran n (e ∷ h) → (ticked e ≡ true → wanted h ≡ 2) → shut n e ≡ false
+full-shuts-not n g e h r a = by-test (shut n e) refl
+  where
+    by-test : (b : Bool) → shut n e ≡ b → b ≡ false
+    by-test true z =
+        let x = shut-when-no n g e h r z in
+        absurd (false≢true (sym (ap (eqb 0) (a (x .0))) ∙ x .2))
+    by-test false z = refl
 
-        after : OnAfter n d (s .step) (s .told) (s .asked) (s .answers) (s .count) (tally ticked h) waits (decides n s)
-        after =
-            subst (λ (wanted : Mode). OnAfter n d (s .step) (s .told) (s .asked) (s .answers) (s .count) (tally ticked h) waits (decision
-            (s .step) wanted (finished n s) (any isRefusal (heardOf n s)) (reaches n s) (outfitOf (n .transceiver) (n .partial)))) (sym full)
-            (on-move (s .told) (s .asked) (finished n s) (any isRefusal (heardOf n s)) (reaches n s) (s .answers) (s .count) (tally ticked h)
-            (λ (c : ℕ). waiting c h) waits (outfitOf (n .transceiver) (n .partial)) (s .step) (finished-just n s) (reaches-just n s) o an)
+-- a bus-off begins none
+fall-shuts-not : (n : Network) → InRange n → (e : Seen) (h : OwnHistory) → Ran n (e ∷ h) → fell e ≡ true → shut n e ≡ false
+fall-shuts-not n g e h r f = by-test (shut n e) refl
+  where
+    by-test : (b : Bool) → shut n e ≡ b → b ≡ false
+    by-test true z = absurd (true≢false (sym f ∙ shut-when-no n g e h r z .1))
+    by-test false z = refl
 
-    on-call : Kept n s → (e : Seen) → Fits n s e → Goes e (played n s (e .sight) .state)
-    unfolding tally
-    on-call k = by-part n s Goes (record {
-      plain =
-          λ sight accepted wanted reported p _ _ _ _. (on-plain sight accepted (p .tick) (p .deaf), λ z. absurd (false≢true (sym (p .tick) ∙ z)));
-      hears = λ c mode ok m l e _ y _ _. (on-hear k c mode ok m l e y, λ z. absurd (false≢true z));
-      recovers = λ u z _ _ _. absurd (true≢false z);
-      restarts = λ u a z _ _ _. absurd (true≢false z);
-      not-taken = λ u a z _ _ _. absurd (true≢false z);
-      ticks = λ _ _ an full. let t = on-tick (an refl) (full refl) in (t .0, λ _. t .1);
-    })
+no-shutdown : (n : Network) → InRange n → (s h : OwnHistory) → Ran n (s ++ h) → fullAtTicks s h ≡ true → never (shut n) s
+unfolding Ran any
+no-shutdown n g [] h r a = refl
+no-shutdown n g (e ∷ s) h r a =
+    let x = full-more e s h a in
+    rw (full-shuts-not n g e (s ++ h) r (x .0)) (no-shutdown n g s h (r .1) (x .1))
 
--- ---- histories
--- mode 2 is full
-full-mode : (mode : Mode) → modeNumber mode ≡ 2 → mode ≡ Mode.Full
-full-mode Mode.No e = absurd (omega arith)
-full-mode Mode.Silent e = absurd (omega arith)
-full-mode Mode.Full e = refl
+-- full was wanted at the last tick, if there was one
+full-at-last : (s h : OwnHistory) → fullAtTicks s h ≡ true → 0 < tally ticked s → wantedAtTick (s ++ h) ≡ 2
+unfolding tally wantedAtTick
+full-at-last [] h a l = absurd (omega arith)
+full-at-last (e ∷ s) h a l = let x = full-more e s h a in by-test (ticked e) (x .0) (full-at-last s h (x .1)) l
+  where
+    by-test : (b : Bool) → (b ≡ true → wanted (s ++ h) ≡ 2) → (0 < tally ticked s → wantedAtTick (s ++ h) ≡ 2)
+        → 0 < cond b (suc (tally ticked s)) (tally ticked s) → cond b (wanted (s ++ h)) (wantedAtTick (s ++ h)) ≡ 2
+    by-test true p q l = p refl
+    by-test false p q l = q l
 
--- a delay is one of the two times
-delay-range : (n : Network) → InRange n → (h : OwnHistory) → (1 ≤ delayAt n h) × (delayAt n h < 65536)
-delay-range n g h =
-    split (λ (x : ℕ). (1 ≤ x) × (x < 65536)) (ltb (n .threshold) (tally (fellUp n) (since (cleared n) h))) (λ _. g .long) (λ _. g .short)
+-- ---- which entry tells full
+-- a move that enters full makes the told mode full, where it was not
+abbrev SaysNow : Mode → Step → Mode → Move → Type 0
+SaysNow told step wanted m = isFullMode told ≡ isFullStep step → isEnterFull m ≡ (isFullMode (toldAfter m told) && not (isFullMode told))
 
--- where the network stands tells the mode last told
-on-told : (n : Network) (d k : ℕ) (w : ℕ → Bool) (step : Step) (told : Mode) (asked : Bool) (answers : List Heard) (count : ℕ) →
-    On n d step told asked answers count k w → modeNumber told ≡ cond (leb (d + 2) k) 2 1
-on-told n d k w NoCommunication told asked answers count o = absurd o
-on-told n d k w TransceiverNormal told asked answers count o = absurd o
-on-told n d k w ControllersStopped told asked answers count o = absurd o
-on-told n d k w ControllersStarted told asked answers count o = absurd o
-on-told n d k w (Checking t) told asked answers count o = rw (le-leb (d + 2) k (o .1)) (o .0)
-on-told n d k w Full told asked answers count o = rw (le-leb (d + 2) k (o .1)) (o .0)
-on-told n d k w Restarting told false answers count o = rw (lt-leb (d + 2) k (omega (arith, o .2))) (o .1)
-on-told n d k w Restarting told true answers count o = rw (lt-leb (d + 2) k (omega (arith, o .2 .0))) (o .1)
-on-told n d k w (Waiting t) told asked answers count o = rw (lt-leb (d + 2) k (omega (arith, o .2, o .3))) (o .1)
-on-told n d k w Silent told asked answers count o = absurd o
-on-told n d k w ClearWake told asked answers count o = absurd o
-on-told n d k w DownStopped told asked answers count o = absurd o
-on-told n d k w TransceiverStandby told asked answers count o = absurd o
-on-told n d k w ControllersSleep told asked answers count o = absurd o
-on-told n d k w CheckWake told asked answers count o = absurd o
-on-told n d k w CheckWakeAgain told asked answers count o = absurd o
+both-not : (b : Bool) → false ≡ (b && not b)
+both-not true = refl
+both-not false = refl
 
-module _ (n : Network) (g : InRange n) (f : Distinct (controllersOf n)) (b : Seen) (h : OwnHistory) (u : fellUp n b ≡ true) where
-  abbrev stands : OwnHistory → Type 0
-  stands s = OnState n (delayAt n (b ∷ h)) (stateOf n (s ++ (b ∷ h))) s
+says-now : (told : Mode) (done : Bool) → ByMove done (SaysNow told)
+says-now told done = record {
+  stays = λ step wanted k. both-not (isFullMode told);
+  asks-again = λ step wanted a k. both-not (isFullMode told);
+  counts = λ step next wanted p p′ f k. both-not (isFullMode told);
+  passes = λ step wanted p f k. both-not (isFullMode told);
+  fills = λ step wanted p k. sym (ap not (k ∙ p .unsaid));
+  starts = λ step wanted d a k. sym (ap not (k ∙ starts-not-full step a));
+  silences = λ step wanted p k. refl;
+  waits = λ step wanted d a f k. both-not (isFullMode told);
+  goes-down = λ step o k. rw (lowered-not-full told) refl;
+  ends = λ step wanted u k. refl;
+  enters = λ step next wanted a u f k. both-not (isFullMode told);
+}
 
-  -- the good conditions of a history are those of its beginning
-  shorter : (e : Seen) (s : OwnHistory) → GoodConditions n (e ∷ s) (b ∷ h) → GoodConditions n s (b ∷ h)
-  unfolding FullAtTicks Prompt
-  shorter e s i =
-      record { full = i .full .1; prompt = i .prompt .1; only-ok = never-rest (saysNo n) e s (i .only-ok); calm = never-rest fell e s (i .calm) }
+-- full is told exactly if the record says so
+full-told : (n : Network) (h : OwnHistory) → Ran n h → isFullMode (stateOf n h .told) ≡ eqb 2 (told n h)
+full-told n h r = sym (full-mode-number (stateOf n h .told)) ∙ ap (eqb 2) (told-follows n h r)
 
-  -- one entry more
-  onward : (e : Seen) (s : OwnHistory) → Ran n (e ∷ (s ++ (b ∷ h))) → GoodConditions n (e ∷ s) (b ∷ h) → stands s
-      → stands (e ∷ s) × (ticked e ≡ true → hands 6 (n .handle) 2 e ≡ eqb (delayAt n (b ∷ h) + 2) (tally ticked (e ∷ s)))
-  unfolding stateOf Ran FullAtTicks Prompt
-  onward e s r i o =
-      let t = stateOf n (s ++ (b ∷ h)) in
-      let range = delay-range n g (b ∷ h) in
-      on-call n g f (delayAt n (b ∷ h)) (range .0) (range .1) s t o (state-kept n g (s ++ (b ∷ h)) (r .1)) e (r .0)
-      (never-first fell e s (i .calm)) (never-first (saysNo n) e s (i .only-ok)) (i .prompt .0)
-      (λ z. full-mode (t .wanted) (wanted-follows n (s ++ (b ∷ h)) (r .1) ∙ i .full .0 z))
+-- an entry hands out 6 full exactly if full is told after it and was not before
+says-full : (n : Network) → InRange n → (t : Seen) (h : OwnHistory) → Ran n (t ∷ h)
+    → hands 6 (n .handle) 2 t ≡ (eqb 2 (told n (t ∷ h)) && not (eqb 2 (told n h)))
+unfolding Ran stateOf any recovery afterMove afterHit madeAnew
+says-full n g t h r =
+    by-part n w (λ e x. hands 6 (n .handle) 2 e ≡ (isFullMode (x .told) && not (isFullMode (w .told)))) (record {
+      plain = λ sight accepted mode reported p. both-not (isFullMode (w .told));
+      hears = λ c mode ok m l e. both-not (isFullMode (w .told));
+      recovers = λ u. refl;
+      restarts = λ u a. both-not (isFullMode (w .told));
+      not-taken = λ u a. both-not (isFullMode (w .told));
+      ticks = move-says-full n (w .step) _ (decides n w)
+          ∙ by-tick n w (SaysNow (w .told)) (says-now (w .told) (finished n w)) (state-kept n g h (r .1) .told);
+    }) t (r .0)
+    ∙ rw (full-told n (t ∷ h) r, full-told n h (r .1)) refl
+  where
+    w : State
+    w = stateOf n h
 
-  -- from the bus-off on
-  on : (s : OwnHistory) → Ran n (s ++ (b ∷ h)) → GoodConditions n s (b ∷ h) → stands s
-  unfolding stateOf Ran tally afterHit madeAnew
-  on [] r i =
-      fell-up-recovers n (stateOf n h) (λ e t. OnState n (delayAt n (e ∷ h)) t [])
-      (delay-begins n (range-fit n g) h (stateOf n h) (follows n h (r .1)), refl, refl) b (r .0) u
-  on (e ∷ s) r i = onward e s r i (on s (r .1) (shorter e s i)) .0
+-- ---- after a bus-off while up, under good conditions
+-- what ran by the rules did so from the beginning
+ran-earlier : (n : Network) (s h : OwnHistory) → Ran n (s ++ h) → Ran n h
+unfolding Ran
+ran-earlier n [] h r = r
+ran-earlier n (e ∷ s) h r = ran-earlier n s h (r .1)
+
+-- who does not say no does not answer with not ok
+not-no : (n : Network) (e : Seen) → saysNo n e ≡ false → (c : ℕ) → member c (controllersOf n) ≡ true → isAnswer c 0 (e .sight) && e .accepted ≡ false
+not-no n e f c m = by-test (isAnswer c 0 (e .sight) && e .accepted) refl
+  where
+    by-test : (b : Bool) → isAnswer c 0 (e .sight) && e .accepted ≡ b → b ≡ false
+    by-test true q =
+        absurd (true≢false (sym (any-member (λ (c : ℕ). isAnswer c 0 (e .sight) && e .accepted) c (controllersOf n) m q) ∙ f))
+    by-test false q = refl
+
+-- where there is no such tick yet there was none before
+first-before : (n : Network) (e : Seen) (s : OwnHistory) → firstRunning n (e ∷ s) ≡ 0 → firstRunning n s ≡ 0
+first-before n e s z = by-number (firstRunning n s) refl
+  where
+    by-number : (k : ℕ) → firstRunning n s ≡ k → k ≡ 0
+    by-number zero q = refl
+    by-number (suc k) q = absurd (omega (arith, first-stays n e s (omega (arith, q)), q, z))
+
+module _ (n : Network) (g : InRange n) (f : Distinct (controllersOf n)) (b : Seen) (h : OwnHistory) (u : fellUp n b h ≡ true) where
+  -- the whole history
+  abbrev all : OwnHistory → OwnHistory
+  all s = s ++ (b ∷ h)
+
+  module _ (s : OwnHistory) (r : Ran n (all s)) (i : GoodConditions n s (b ∷ h)) where
+    no-down : never (shut n) s
+    no-down = no-shutdown n g s (b ∷ h) r (i .full)
+
+    since-b : since (setback n) (all s) ≡ s
+    since-b = since-bus-off n s b h u (i .calm) no-down
+
+    -- the network is still up
+    still-up : up n (all s) ≡ true
+    unfolding since any
+    still-up =
+        let fall = and-both (fell b) (up n h) u in
+        let says : Seen → Bool = hands 6 (n .handle) 2 in
+        ap (any says) (since-on (shut n) s (b ∷ h) no-down) ∙ any-append says s (since (shut n) (b ∷ h))
+        ∙ rw (fall-shuts-not n g b h (ran-earlier n s (b ∷ h) r) (fall .0), fall .1, or-true (says b)) (or-true (any says s))
+
+    -- as long as not all run: each controller was asked once a tick came, and then an ok is accepted
+    asked-since : firstRunning n s ≡ 0 → (c : ℕ) → member c (controllersOf n) ≡ true → askedToStart c s ≡ ltb 0 (tally ticked s)
+    asked-since = subst
+        (λ (q : OwnHistory). firstRunning n q ≡ 0 → (c : ℕ) → member c (controllersOf n) ≡ true → askedToStart c q ≡ ltb 0 (tally ticked q))
+        since-b (asked-by-tick n g f (all s) r still-up)
+
+    accepted-since : firstRunning n s ≡ 0 → (e : Seen) → Fits n (stateOf n (all s)) e → 0 < tally ticked s
+        → (c : ℕ) → member c (controllersOf n) ≡ true → isAnswer c 1 (e .sight) ≡ true → e .accepted ≡ true
+    accepted-since = subst (λ (q : OwnHistory). firstRunning n q ≡ 0 → (e : Seen) → Fits n (stateOf n (all s)) e → 0 < tally ticked q
+        → (c : ℕ) → member c (controllersOf n) ≡ true → isAnswer c 1 (e .sight) ≡ true → e .accepted ≡ true)
+        since-b (okay-accepted n g f (all s) r still-up)
+
+  -- who is not waited for, once a tick came, runs: an entry more
+  heard-more : (e : Seen) (s : OwnHistory) → Ran n (all (e ∷ s)) → GoodConditions n (e ∷ s) (b ∷ h) → firstRunning n (e ∷ s) ≡ 0
+      → 0 < tally ticked (e ∷ s) → (c : ℕ) → member c (controllersOf n) ≡ true
+      → (0 < tally ticked s → waiting c s ≡ false → runs c s ≡ true) → waiting c (e ∷ s) ≡ false → runs c (e ∷ s) ≡ true
+  unfolding Ran any waiting runs
+  heard-more e s r i z l c m earlier = by-request (hands 1 c 1 e) refl
+    where
+      before : askedToStart c s ≡ ltb 0 (tally ticked s)
+      before = asked-since s (r .1) (shorter n e s (b ∷ h) i) (first-before n e s z) c m
+
+      now : askedToStart c (e ∷ s) ≡ true
+      now = asked-since (e ∷ s) r i z c m ∙ lt-ltb 0 (tally ticked (e ∷ s)) l
+
+      by-answer : (a : Bool) → isAnswer c 1 (e .sight) ≡ a → askedToStart c s ≡ true → cond a false (waiting c s) ≡ false
+          → cond (a && e .accepted) (askedToStart c s) (cond (isAnswer c 0 (e .sight) && e .accepted) false (runs c s)) ≡ true
+      by-answer true o asked q =
+          let some = ltb-true 0 (tally ticked s) (sym before ∙ asked) in
+          rw (accepted-since s (r .1) (shorter n e s (b ∷ h) i) (first-before n e s z) e (r .0) some c m o) asked
+      by-answer false o asked q =
+          rw (not-no n e (never-first (saysNo n) e s (i .only-ok)) c m) (earlier (ltb-true 0 (tally ticked s) (sym before ∙ asked)) q)
+
+      by-request : (a : Bool) → hands 1 c 1 e ≡ a → cond a true (cond (isAnswer c 1 (e .sight)) false (waiting c s)) ≡ false → runs c (e ∷ s) ≡ true
+      by-request true a q = absurd (true≢false q)
+      by-request false a q = by-answer (isAnswer c 1 (e .sight)) refl (sym (ap (λ (x : Bool). x || askedToStart c s) a) ∙ now) q
+
+  heard-all : (s : OwnHistory) → Ran n (all s) → GoodConditions n s (b ∷ h) → firstRunning n s ≡ 0 → 0 < tally ticked s
+      → (c : ℕ) → member c (controllersOf n) ≡ true → waiting c s ≡ false → runs c s ≡ true
+  unfolding Ran tally
+  heard-all [] r i z l c m = absurd (omega arith)
+  heard-all (e ∷ s) r i z l c m =
+      heard-more e s r i z l c m (λ some. heard-all s (r .1) (shorter n e s (b ∷ h) i) (first-before n e s z) some c m)
+
+  -- the second tick is the first before which all run
+  second-more : (e : Seen) (s : OwnHistory) → Ran n (all (e ∷ s)) → GoodConditions n (e ∷ s) (b ∷ h)
+      → firstRunning n s ≡ cond (ltb 1 (tally ticked s)) 2 0 → firstRunning n (e ∷ s) ≡ cond (ltb 1 (tally ticked (e ∷ s))) 2 0
+  unfolding Ran tally
+  second-more e s r i k = by-test (ticked e) refl
+    where
+      by-count : ticked e ≡ true → (t : ℕ) → tally ticked s ≡ t → firstRunning n (e ∷ s) ≡ cond (ltb 1 (suc t)) 2 0
+      by-count t zero q =
+          let z : firstRunning n s ≡ 0 = k ∙ rw q refl in
+          first-tick n e s t z
+          ∙ rw (none-run n g s (λ c m. asked-since s (r .1) (shorter n e s (b ∷ h) i) z c m ∙ ap (ltb 0) q)) refl
+      by-count t (suc zero) q =
+          let z : firstRunning n s ≡ 0 = k ∙ rw q refl in
+          let run = heard-all s (r .1) (shorter n e s (b ∷ h) i) z (omega (arith, q)) in
+          first-tick n e s t z
+          ∙ rw (each-member (λ (c : ℕ). runs c s) (controllersOf n) (λ c m. run c m (prompt-more n e s (i .prompt) .0 t c m)), q) refl
+      by-count t (suc (suc ticks)) q =
+          let two : firstRunning n s ≡ 2 = k ∙ rw (lt-ltb 1 (tally ticked s) (omega (arith, q))) refl in
+          first-stays n e s (omega (arith, two)) ∙ two ∙ rw (lt-ltb 1 (suc (suc (suc ticks))) (omega arith)) refl
+
+      by-test : (a : Bool) → ticked e ≡ a → firstRunning n (e ∷ s) ≡ cond (ltb 1 (cond a (suc (tally ticked s)) (tally ticked s))) 2 0
+      by-test true t = by-count t (tally ticked s) refl
+      by-test false t = first-no-tick n e s t ∙ k
+
+  second-tick : (s : OwnHistory) → Ran n (all s) → GoodConditions n s (b ∷ h) → firstRunning n s ≡ cond (ltb 1 (tally ticked s)) 2 0
+  unfolding Ran tally firstRunning
+  second-tick [] r i = refl
+  second-tick (e ∷ s) r i = second-more e s r i (second-tick s (r .1) (shorter n e s (b ∷ h) i))
+
+  -- full is told exactly from the tick on that is numbered delay plus two
+  full-from : (s : OwnHistory) → Ran n (all s) → GoodConditions n s (b ∷ h)
+      → eqb 2 (told n (all s)) ≡ leb (delayAt n (b ∷ h) + 2) (tally ticked s)
+  full-from s r i =
+      late-answers n g f s b h r u (i .calm) (no-down s r i) .0
+      ∙ ap (λ (k : ℕ). ltb 0 k && (leb (k + d) (tally ticked s) && eqb 2 (wantedAtTick (all s)))) (second-tick s r i)
+      ∙ by-test (ltb 1 (tally ticked s)) refl
+    where
+      d : ℕ
+      d = delayAt n (b ∷ h)
+
+      by-test : (a : Bool) → ltb 1 (tally ticked s) ≡ a
+          → (ltb 0 (cond a 2 0) && (leb (cond a 2 0 + d) (tally ticked s) && eqb 2 (wantedAtTick (all s)))) ≡ leb (d + 2) (tally ticked s)
+      by-test true t = rw (full-at-last s (b ∷ h) (i .full) (omega (arith, ltb-true 1 (tally ticked s) t)))
+          (and-true (leb (2 + d) (tally ticked s)) ∙ ap (λ (k : ℕ). leb k (tally ticked s)) (omega arith))
+      by-test false t = sym (lt-leb (d + 2) (tally ticked s) (omega (arith, ltb-false 1 (tally ticked s) t)))
+
+  -- silent is the only other mode
+  by-mode : (mode : Mode) (full : Bool) → eqb 0 (modeNumber mode) ≡ false → eqb 2 (modeNumber mode) ≡ full → modeNumber mode ≡ cond full 2 1
+  by-mode Mode.No full e q = absurd (true≢false e)
+  by-mode Mode.Silent full e q = rw (sym q) refl
+  by-mode Mode.Full full e q = rw (sym q) refl
+
+  pub said-from : (s : OwnHistory) → Ran n (all s) → SaidFrom n s b h
+  said-from s r v i =
+      let w = stateOf n (all s) in
+      let voice = says n (all s) r in
+      let same = told-follows n (all s) r in
+      sym same ∙ by-mode (w .told) _
+      (voice .silence ∙ ap not (voice .voice (sym (voice .stands) ∙ still-up s r i))) (ap (eqb 2) same ∙ full-from s r i)
+
+-- a number is reached now and was not before
+just-reached : (d t : ℕ) → (leb d (suc t) && not (leb d t)) ≡ eqb d (suc t)
+just-reached d t = by-test (leb d (suc t)) (leb d t) refl refl
+  where
+    by-test : (a c : Bool) → leb d (suc t) ≡ a → leb d t ≡ c → (a && not c) ≡ eqb d (suc t)
+    by-test true true p q = sym (ne-eqb d (suc t) (λ e. omega (arith, leb-true d t q, e)))
+    by-test true false p q = sym (eq-eqb d (suc t) (omega (arith, leb-true d (suc t) p, leb-false d t q)))
+    by-test false c p q = sym (ne-eqb d (suc t) (λ e. omega (arith, leb-false d (suc t) p, e)))
 
 -- demand 3, third sentence, of one network: full is told on just that tick
 pub third-sentence : (n : Network) → InRange n → Distinct (controllersOf n) → (t : Seen) (s : OwnHistory) (b : Seen) (h : OwnHistory)
     → Ran n (t ∷ (s ++ (b ∷ h))) → OnJustThatTick n t s b h
-unfolding Ran
-third-sentence n g f t s b h r u i z = onward n g f b h u t s r i (on n g f b h u s (r .1) (shorter n g f b h u t s i)) .1 z
-
--- the same by the mode last told: silent up to that tick, full from it on
-pub said-from : (n : Network) →
-    InRange n → Distinct (controllersOf n) → (s : OwnHistory) (b : Seen) (h : OwnHistory) → Ran n (s ++ (b ∷ h)) → SaidFrom n s b h
-said-from n g f s b h r u i =
-    let w = stateOf n (s ++ (b ∷ h)) in
-    sym (told-follows n (s ++ (b ∷ h)) r)
-    ∙ on-told n
-    (delayAt n (b ∷ h)) (tally ticked s) (λ (c : ℕ). waiting c s) (w .step) (w .told) (w .asked) (w .answers) (w .count) (on n g f b h u s r i)
+unfolding Ran tally
+third-sentence n g f t s b h r u i z =
+    says-full n g t (s ++ (b ∷ h)) r
+    ∙ rw (full-from n g f b h u (t ∷ s) r i, full-from n g f b h u s (r .1) (shorter n t s (b ∷ h) i), z)
+    (just-reached (delayAt n (b ∷ h) + 2) (tally ticked s))

@@ -1,6 +1,6 @@
 -- What one network sees, once: whatever holds of each of six effects holds of every entry of its history.
 use Rattle.lists.proofs.Basics.{ℕ, arith, eqb-true, ltb-true, _≡_, refl, sym, ap, subst, _∙_, List, [], Bool, true, false, _&&_, cond, false≢true}
-use Rattle.lists.proofs.Basics.{true≢false, eqb, ltb, set}
+use Rattle.lists.proofs.Basics.{_||_, or-false, or-true, and-false, true≢false, eqb, ltb, set}
 use Rattle.lists.proofs.Any.{and-both}
 use Rattle.lists.specs.Lists.{any, first}
 use Rattle.records.specs.declared.Mode.{Mode}
@@ -9,7 +9,9 @@ use Rattle.records.specs.Records.{modeNumber}
 use Rattle.settings.specs.declared.Network.{Network}
 use Rattle.settings.specs.Settings.{controllersOf, member}
 use Rattle.settings.specs.Good.{InRange}
+use Rattle.steps.specs.declared.Step.{Step}
 use Rattle.steps.specs.declared.Ask.{Ask}
+use Rattle.steps.specs.declared.Move.{Move}
 use Rattle.steps.specs.Steps.{asksFor, isAsk, asksToStart, isUp}
 use Rattle.handing.specs.Handing.{recovery}
 use Rattle.network.specs.declared.Hit.{Hit}
@@ -23,10 +25,17 @@ use Rattle.network.specs.Moving.{afterMove}
 use Rattle.network.specs.BusOff.{hitOf, madeAnew, afterHit, hitRecords}
 use Rattle.network.specs.Parts.{Sight, aTick, aBusOff, anAnswer, aRequest, aReport, nothing, isTaken, hitReply, requestPart, reportPart, answerPart}
 use Rattle.network_theorems.specs.Kept.{Kept}
+use Rattle.network_theorems.proofs.Moves.{ByMove, by-move}
 use Rattle.network_theorems.proofs.Kept.{move-kept, want-kept, hit-kept, answer-kept, report-kept}
 use Rattle.network_theorems.proofs.Parts.{by-hit, by-request, by-report, by-answer}
-use Rattle.network_demands.specs.Words.{Seen, isTick, isBusOff, isAnswer, wantedBy}
-use Rattle.network_demands.specs.Own.{finished, reaches, tickAfter, tickHands, recovered, restarted, hitAfter, played, handed, concerns, Fits}
+use Rattle.network_demands.specs.Words.{Seen, isTick, isBusOff, isAnswerOn, isAnswer, wantedBy}
+use Rattle.network_demands.specs.Own.{finished, reaches, decides, tickAfter, tickHands, recovered, restarted, hitAfter, played, handed}
+use Rattle.network_demands.specs.Own.{concerns, Fits}
+
+-- what a test picks from two that are the same
+pub either-way : {A : Type 0} (b : Bool) (x : A) → x ≡ cond b x x
+either-way true x = refl
+either-way false x = refl
 
 -- ---- entries
 abbrev pub seen : Sight → Bool → List Record → Seen
@@ -46,15 +55,26 @@ abbrev pub plainState : State → Mode → Bool → State
 plainState s mode reported =
     record { step = s .step; wanted = mode; told = s .told; count = s .count; asked = s .asked; answers = s .answers; reported = reported }
 
+-- a report that the network takes, as it is seen
+abbrev pub takesSight : State → Sight → Bool
+takesSight s aTick = false
+takesSight s aBusOff = false
+takesSight s (anAnswer controller mode ok) = false
+takesSight s (aRequest mode) = false
+takesSight s (aReport report) = takesReport s report
+takesSight s nothing = false
+
 -- nothing is handed out, and it is no tick, no bus-off and no accepted answer of a controller of the network
 pub record Plain (n : Network) (s : State) (sight : Sight) (accepted : Bool) (mode : Mode) (reported : Bool) : Type 0 where
   pub tick : isTick sight ≡ false
   pub bus-off : isBusOff sight ≡ false
-  pub answer : (c value : ℕ) → member c (controllersOf n) ≡ true → isAnswer c value sight && accepted ≡ false
+  pub answer : (c mode value : ℕ) → member c (controllersOf n) ≡ true → isAnswerOn c mode value sight && accepted ≡ false
   -- the mode is that of an accepted request, and else the one before
   pub wanted : modeNumber mode ≡ cond accepted (wantedBy sight (modeNumber (s .wanted))) (modeNumber (s .wanted))
   -- it is no ok to the request to start, where that is awaited
   pub deaf : (c : ℕ) → member c (controllersOf n) ≡ true → isAnswer c 1 sight ≡ true → takesReport s (Report.Controller 1) ≡ false
+  -- a report has come where one had before or this is one that is taken
+  pub reports : reported ≡ s .reported || (takesSight s sight && accepted)
   pub kept : Kept n s → Kept n (plainState s mode reported)
 
 -- P entry record, for each effect
@@ -70,15 +90,17 @@ pub record ByPart (n : Network) (s : State) (P : Seen → State → Type 0) : Ty
 
 module _ (n : Network) (s : State) (P : Seen → State → Type 0) (by : ByPart n s P) where
   -- what is seen is no tick, no bus-off, no answer and no accepted request
-  quiet : (sight : Sight) (accepted reported : Bool) → isTick sight ≡ false → isBusOff sight ≡ false → ((c value : ℕ) →
-      isAnswer c value sight ≡ false) → modeNumber (s .wanted) ≡ cond accepted (wantedBy sight (modeNumber (s .wanted))) (modeNumber (s .wanted)) →
+  quiet : (sight : Sight) (accepted reported : Bool) → isTick sight ≡ false → isBusOff sight ≡ false → ((c mode value : ℕ) →
+      isAnswerOn c mode value sight ≡ false) → modeNumber (s .wanted) ≡ cond accepted (wantedBy sight (modeNumber (s .wanted)))
+      (modeNumber (s .wanted)) → reported ≡ s .reported || (takesSight s sight && accepted) →
       (Kept n s → Kept n (plainState s (s .wanted) reported)) → P (seen sight accepted []) (plainState s (s .wanted) reported)
-  quiet sight accepted reported t b a w k = by .plain sight accepted (s .wanted) reported (record {
+  quiet sight accepted reported t b a w r k = by .plain sight accepted (s .wanted) reported (record {
     tick = t;
     bus-off = b;
-    answer = λ c value m. rw (a c value) refl;
+    answer = λ c mode value m. rw (a c mode value) refl;
     wanted = w;
-    deaf = λ c m e. absurd (false≢true (sym (a c 1) ∙ e));
+    deaf = λ c m e. absurd (false≢true (sym (a c 1 1) ∙ e));
+    reports = r;
     kept = k;
   })
 
@@ -88,25 +110,23 @@ module _ (n : Network) (s : State) (P : Seen → State → Type 0) (by : ByPart 
   unheard c mode ok accepted z f = by .plain (anAnswer c mode ok) accepted (s .wanted) (s .reported) (record {
     tick = refl;
     bus-off = refl;
-    answer = λ c′ value m. refused c′ value m (isAnswer c′ value (anAnswer c mode ok)) refl;
-    wanted = same accepted;
+    answer = λ c′ mode′ value m. refused c′ mode′ value m (isAnswerOn c′ mode′ value (anAnswer c mode ok)) refl;
+    wanted = either-way accepted (modeNumber (s .wanted));
     deaf = λ c′ m e.
         let p = and-both (eqb c′ c) _ e in
         let q = and-both (eqb 1 mode) _ (p .1) in
         f (own c′ m (p .0)) (eqb-true 1 mode (q .0)) (eqb-true 1 ok (q .1));
+    reports = sym (or-false (s .reported));
     kept = λ k. k;
   })
     where
       own : (c′ : ℕ) → member c′ (controllersOf n) ≡ true → eqb c′ c ≡ true → member c (controllersOf n) ≡ true
       own c′ m e = ap (λ (x : ℕ). member x (controllersOf n)) (sym (eqb-true c′ c e)) ∙ m
 
-      refused : (c′ value : ℕ) → member c′ (controllersOf n) ≡ true → (b : Bool) → isAnswer c′ value (anAnswer c mode ok) ≡ b → b && accepted ≡ false
-      refused c′ value m false e = refl
-      refused c′ value m true e = z (own c′ m (and-both (eqb c′ c) _ e .0))
-
-      same : (b : Bool) → modeNumber (s .wanted) ≡ cond b (modeNumber (s .wanted)) (modeNumber (s .wanted))
-      same true = refl
-      same false = refl
+      refused : (c′ mode′ value : ℕ) → member c′ (controllersOf n) ≡ true → (b : Bool)
+          → isAnswerOn c′ mode′ value (anAnswer c mode ok) ≡ b → b && accepted ≡ false
+      refused c′ mode′ value m false e = refl
+      refused c′ mode′ value m true e = z (own c′ m (and-both (eqb c′ c) _ e .0))
 
   -- an answer that is taken, of a controller of the network or of another
   heard-by : (c mode ok : ℕ) → ltb 1 ok ≡ false → takesReport s (Report.Controller mode) ≡ true → (own : Bool) → member c (controllersOf n) ≡ own
@@ -134,9 +154,10 @@ module _ (n : Network) (s : State) (P : Seen → State → Type 0) (by : ByPart 
       (by .plain (aRequest number) true mode (s .reported) (record {
         tick = refl;
         bus-off = refl;
-        answer = λ c value m. refl;
+        answer = λ c mode value m. refl;
         wanted = sym same;
         deaf = λ c m f. absurd (false≢true f);
+        reports = sym (or-false (s .reported));
         kept = want-kept n s mode may;
       })))
       unchanged unchanged
@@ -144,20 +165,20 @@ module _ (n : Network) (s : State) (P : Seen → State → Type 0) (by : ByPart 
       unchanged : accepted ≡ false → P (seen (aRequest number) accepted []) s
       unchanged e =
           quiet (aRequest number) accepted
-          (s .reported) refl refl (λ c value. refl) (ap (λ (b : Bool). cond b number (modeNumber (s .wanted))) (sym e)) (λ k. k)
+          (s .reported) refl refl (λ c mode value. refl) (ap (λ (b : Bool). cond b number (modeNumber (s .wanted))) (sym e))
+          (sym (or-false (s .reported))) (λ k. k)
 
   reports : (report : Report) (accepted : Bool) → Due (aReport report) accepted (reportPart s report)
   unfolding reportPart afterReport
   reports report accepted = by-report s (Due (aReport report) accepted) report _
-      (λ t e. quiet (aReport report) accepted true refl refl (λ c value. refl) (same accepted) (report-kept n s report t))
-      (λ _ _. unchanged) (λ _ _. unchanged)
+      (λ t e. quiet (aReport report) accepted true refl refl (λ c mode value. refl) (either-way accepted (modeNumber (s .wanted)))
+      (rw (t, e) (sym (or-true (s .reported)))) (report-kept n s report t))
+      (λ _. unchanged) (λ _. unchanged)
     where
-      same : (b : Bool) → modeNumber (s .wanted) ≡ cond b (modeNumber (s .wanted)) (modeNumber (s .wanted))
-      same true = refl
-      same false = refl
-
-      unchanged : P (seen (aReport report) accepted []) s
-      unchanged = quiet (aReport report) accepted (s .reported) refl refl (λ c value. refl) (same accepted) (λ k. k)
+      unchanged : accepted ≡ false → P (seen (aReport report) accepted []) s
+      unchanged e =
+          quiet (aReport report) accepted (s .reported) refl refl (λ c mode value. refl) (either-way accepted (modeNumber (s .wanted)))
+          (rw (e, and-false (takesReport s report)) (sym (or-false (s .reported)))) (λ k. k)
 
   bus-offs : (accepted : Bool) → accepted ≡ isTaken (hitReply (hitOf (s .step)))
       → P (seen aBusOff accepted (hitRecords n (hitOf (s .step)))) (hitAfter s (hitOf (s .step)))
@@ -175,17 +196,20 @@ module _ (n : Network) (s : State) (P : Seen → State → Type 0) (by : ByPart 
   by-sight (anAnswer c mode ok) accepted f = answers c mode ok accepted (f refl)
   by-sight (aRequest mode) accepted f = requests mode accepted (f refl)
   by-sight (aReport report) accepted f = reports report accepted (f refl)
-  by-sight nothing accepted f = quiet nothing accepted (s .reported) refl refl (λ c value. refl) (same accepted) (λ k. k)
-    where
-      same : (b : Bool) → modeNumber (s .wanted) ≡ cond b (modeNumber (s .wanted)) (modeNumber (s .wanted))
-      same true = refl
-      same false = refl
+  by-sight nothing accepted f =
+      quiet nothing accepted (s .reported) refl refl (λ c mode value. refl) (either-way accepted (modeNumber (s .wanted)))
+      (sym (or-false (s .reported))) (λ k. k)
 
   -- whatever holds of each effect holds of every entry that fits
   pub by-part : (e : Seen) → Fits n s e → P e (played n s (e .sight) .state)
   by-part e f =
       subst (λ (x : Seen). P x (played n s (e .sight) .state))
       (λ i. record { sight = e .sight; accepted = e .accepted; records = sym (f .records) i }) (by-sight (e .sight) (e .accepted) (f .accepted))
+
+-- whatever holds of each kind of move holds of the one that a tick decides
+pub by-tick : (n : Network) (s : State) (P : Step → Mode → Move → Type 0) → ByMove (finished n s) P → P (s .step) (s .wanted) (decides n s)
+by-tick n s P by =
+    by-move P (finished n s) by (s .step) (s .wanted) (any isRefusal (heardOf n s)) (reaches n s) (outfitOf (n .transceiver) (n .partial))
 
 -- ---- what is kept of a record
 -- each part is given by itself, so that a box whose record differs elsewhere is not refused here
@@ -217,7 +241,7 @@ recovered-kept n s k =
     }
 
 -- a step that asks to start asks for something
-starts-asks : (ask : Ask) → asksToStart ask ≡ true → isAsk ask ≡ true
+pub starts-asks : (ask : Ask) → asksToStart ask ≡ true → isAsk ask ≡ true
 starts-asks Ask.Nothing e = e
 starts-asks (Ask.Controllers mode) e = refl
 starts-asks (Ask.Transceiver mode) e = refl

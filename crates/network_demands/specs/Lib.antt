@@ -1,2 +1,3 @@
 pub mod Words
 pub mod Own
+pub mod Promises

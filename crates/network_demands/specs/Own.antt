@@ -1,7 +1,5 @@
 -- One network's part in what it sees, as a box that follows the rules plays it. What a wrong box gets wrong has a name of its own here, so that such
--- a box is an
--- edit of one line; the rules themselves stand in `network`.
-use Prim.Native.Nat.{_≤_}
+-- a box is an edit of one line; the rules themselves stand in `network`.
 use mathlib.Core.Path.{_≡_}
 use mathlib.Core.List.{List, [], _∷_}
 use mathlib.Core.Bool.{Bool, true, false}
@@ -105,10 +103,3 @@ pub record Fits (n : Network) (s : State) (e : Seen) : Type 0 where
 unfoldable pub Ran : Network → OwnHistory → Type 0
 Ran n [] = Unit {0}
 Ran n (e ∷ h) = Fits n (stateOf n h) e × Ran n h
-
--- what the second sentence of demand 3 needs of a network's settings; the reader ensures it. The third needs the ranges of the sheet and pairwise
--- different controllers
-pub record Fit (n : Network) : Type 0 where
-  pub short : 1 ≤ n .short
-  pub long : 1 ≤ n .long
-  pub threshold : n .threshold ≤ 254

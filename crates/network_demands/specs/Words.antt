@@ -1,12 +1,11 @@
 -- The words in which demand 3 speaks of a history, as one network sees it. All of them are read off the calls that concern the network, their
--- answers and the
--- records that name its ids; none cites a rule.
+-- answers and the records that name its ids; none cites a rule.
 use Prim.Native.Nat.{ℕ, suc, _+_, _≤_}
 use mathlib.Core.Path.{_≡_}
 use mathlib.Core.List.{List, [], _∷_, _++_}
-use mathlib.Core.Bool.{Bool, true, false, _&&_, _||_, cond}
+use mathlib.Core.Bool.{Bool, true, false, not, _&&_, _||_, cond}
 use lib.Dec.{leb, ltb, eqb}
-use Rattle.lists.specs.Lists.{any}
+use Rattle.lists.specs.Lists.{any, every}
 use Rattle.records.specs.declared.Record.{Record}
 use Rattle.settings.specs.declared.Network.{Network}
 use Rattle.settings.specs.Settings.{controllersOf, member}
@@ -70,14 +69,18 @@ isBusOff (aRequest mode) = false
 isBusOff (aReport report) = false
 isBusOff nothing = false
 
--- an answer of a controller to the request to start, with this ok value
+-- an answer of a controller to the request for a mode, with this ok value
+abbrev pub isAnswerOn : ℕ → ℕ → ℕ → Sight → Bool
+isAnswerOn c mode value aTick = false
+isAnswerOn c mode value aBusOff = false
+isAnswerOn c mode value (anAnswer controller asked ok) = eqb c controller && (eqb mode asked && eqb value ok)
+isAnswerOn c mode value (aRequest asked) = false
+isAnswerOn c mode value (aReport report) = false
+isAnswerOn c mode value nothing = false
+
+-- one to the request to start
 abbrev pub isAnswer : ℕ → ℕ → Sight → Bool
-isAnswer c value aTick = false
-isAnswer c value aBusOff = false
-isAnswer c value (anAnswer controller mode ok) = eqb c controller && (eqb 1 mode && eqb value ok)
-isAnswer c value (aRequest mode) = false
-isAnswer c value (aReport report) = false
-isAnswer c value nothing = false
+isAnswer c value sight = isAnswerOn c 1 value sight
 
 -- the mode of a request for the network; of all else the mode that was wanted before
 abbrev pub wantedBy : Sight → ℕ → ℕ
@@ -94,13 +97,9 @@ wantedBy nothing before = before
 abbrev pub ticked : Seen → Bool
 ticked e = isTick (e .sight)
 
--- a bus-off of the network, whether it was taken or refused with 22
+-- a bus-off of the network, whatever its answer was; one that was refused for lack of room is not seen
 abbrev pub fell : Seen → Bool
 fell e = isBusOff (e .sight)
-
--- a bus-off while the network was up: it handed out 7 bus-off
-abbrev pub fellUp : Network → Seen → Bool
-fellUp n e = fell e && hands 7 (n .handle) 3 e
 
 -- T26: a shutdown begins, which 7 no says
 abbrev pub shut : Network → Seen → Bool
@@ -133,6 +132,56 @@ unfoldable pub wanted : OwnHistory → ℕ
 wanted [] = 0
 wanted (e ∷ h) = cond (e .accepted) (wantedBy (e .sight) (wanted h)) (wanted h)
 
+-- ---- where the network stands, by what it told and was told
+
+-- up: full was told since the last shutdown
+abbrev pub up : Network → OwnHistory → Bool
+up n h = any (hands 6 (n .handle) 2) (since (shut n) h)
+
+-- it came to rest: no was told since the last shutdown
+abbrev pub rested : Network → OwnHistory → Bool
+rested n h = any (hands 6 (n .handle) 0) (since (shut n) h)
+
+-- full was wanted at some tick since no was last told
+unfoldable pub calledUp : Network → OwnHistory → Bool
+calledUp n [] = false
+calledUp n (e ∷ h) = cond (hands 6 (n .handle) 0 e) false ((ticked e && eqb 2 (wanted h)) || calledUp n h)
+
+-- on: it came to rest, and was called up since
+abbrev pub on : Network → OwnHistory → Bool
+on n h = rested n h && calledUp n h
+
+-- the last tick handed out such a record, and no bus-off was accepted since
+unfoldable pub awaited : ℕ → ℕ → ℕ → OwnHistory → Bool
+awaited kind target argument [] = false
+awaited kind target argument (e ∷ h) =
+    cond (ticked e) (hands kind target argument e) (cond (fell e && e .accepted) false (awaited kind target argument h))
+
+-- the mode that was wanted at the last tick; no where there was none
+unfoldable pub wantedAtTick : OwnHistory → ℕ
+wantedAtTick [] = 0
+wantedAtTick (e ∷ h) = cond (ticked e) (wanted h) (wantedAtTick h)
+
+-- ---- bus-offs while up, and the delay that they bring
+
+-- the entry, which follows h, is a bus-off while the network was up
+abbrev pub fellUp : Network → Seen → OwnHistory → Bool
+fellUp n e h = fell e && up n h
+
+-- how many bus-offs came while the network was up, since the last all-clear
+unfoldable pub falls : Network → OwnHistory → ℕ
+falls n [] = 0
+falls n (e ∷ h) = cond (cleared n e) 0 (cond (fellUp n e h) (suc (falls n h)) (falls n h))
+
+-- the delay that a bus-off at the head of the history brings: the long one exactly where these bus-offs, up to and with it, exceed the threshold
+abbrev pub delayAt : Network → OwnHistory → ℕ
+delayAt n h = cond (ltb (n .threshold) (falls n h)) (n .long) (n .short)
+
+-- the delay that is owed since the last bus-off or shutdown: that of a bus-off while up, and else none
+unfoldable pub owed : Network → OwnHistory → ℕ
+owed n [] = 0
+owed n (e ∷ h) = cond (setback n e) (cond (fellUp n e h) (delayAt n (e ∷ h)) 0) (owed n h)
+
 -- ---- a controller runs: its last answer to the request to start is ok, and it was asked before
 
 -- some record of the history asks the controller to start: kind 1, argument 1
@@ -146,6 +195,30 @@ runs c (e ∷ h) =
     cond (isAnswer c 1 (e .sight) && e .accepted) (askedToStart c h)
     (cond (isAnswer c 0 (e .sight) && e .accepted) false (runs c h))
 
+-- every controller of the network runs
+abbrev pub allRun : Network → OwnHistory → Bool
+allRun n h = every (λ (c : ℕ). runs c h) (controllersOf n)
+
+-- the number, counted from 1, of the first tick before which every controller runs; 0 where there is none
+unfoldable pub firstRunning : Network → OwnHistory → ℕ
+firstRunning n [] = 0
+firstRunning n (e ∷ h) = cond (ltb 0 (firstRunning n h)) (firstRunning n h) (cond (ticked e && allRun n h) (suc (tally ticked h)) 0)
+
+-- ---- exactly when a network is said to be full, and exactly when it is told no
+
+-- full is due after h, of which s is what follows the last bus-off or shutdown: there was a tick before which every controller runs, as many ticks
+-- as the delay came after that one, and full was wanted at the last tick
+abbrev pub duly : Network → ℕ → OwnHistory → OwnHistory → Bool
+duly n delay s h = ltb 0 (firstRunning n s) && (leb (firstRunning n s + delay) (tally ticked s) && eqb 2 (wantedAtTick h))
+
+-- the network is said to be full exactly if that is due
+abbrev pub Told : Network → OwnHistory → Type 0
+Told n h = eqb 2 (told n h) ≡ duly n (owed n h) (since (setback n) h) h
+
+-- no is the mode last told exactly if full was not told since no was
+abbrev pub ToldNo : Network → OwnHistory → Type 0
+ToldNo n h = eqb 0 (told n h) ≡ not (any (hands 6 (n .handle) 2) (since (hands 6 (n .handle) 0) h))
+
 -- ---- demand 3, first sentence: in a network that is said to be full each controller was asked to start and its last answer says that it runs, both
 -- since the latest of the start, the last bus-off and the last shutdown
 abbrev pub Answered : Network → OwnHistory → Type 0
@@ -154,22 +227,24 @@ Answered n h = told n h ≡ 2 → (c : ℕ) → member c (controllersOf n) ≡ t
 -- ---- second sentence: full again after a bus-off while up only when the delay that is due and two ticks are over. The history is s after the
 -- bus-off b after h.
 
--- the delay that a bus-off at the head of the history brings: the long one exactly where the bus-offs while up since the all-clear before it, up to
--- and with it, exceed the threshold
-abbrev pub delayAt : Network → OwnHistory → ℕ
-delayAt n h = cond (ltb (n .threshold) (tally (fellUp n) (since (cleared n) h))) (n .long) (n .short)
-
 -- if b came while up, s has no further bus-off and no shutdown, and full is told at the end, then s has the delay plus two ticks or more
 abbrev pub Delayed : Network → OwnHistory → Seen → OwnHistory → Type 0
 Delayed n s b h =
-    fellUp n b ≡ true → never fell s → never (shut n) s → told n (s ++ (b ∷ h)) ≡ 2 → delayAt n (b ∷ h) + 2 ≤ tally ticked s
+    fellUp n b h ≡ true → never fell s → never (shut n) s → told n (s ++ (b ∷ h)) ≡ 2 → delayAt n (b ∷ h) + 2 ≤ tally ticked s
+
+-- however late the answers are: if b came while up, and s has no further bus-off and no shutdown, then full is told exactly if it is due; the tick
+-- before which every controller runs is never the first
+abbrev pub LateAnswers : Network → OwnHistory → Seen → OwnHistory → Type 0
+LateAnswers n s b h =
+    fellUp n b h ≡ true → never fell s → never (shut n) s
+    → (eqb 2 (told n (s ++ (b ∷ h))) ≡ duly n (delayAt n (b ∷ h)) s (s ++ (b ∷ h))) × (eqb 1 (firstRunning n s) ≡ false)
 
 -- ---- third sentence: where conditions are good, that tick is the one that tells full
 
 -- full is wanted at every tick of s, which follows h
-unfoldable pub FullAtTicks : OwnHistory → OwnHistory → Type 0
-FullAtTicks [] h = Unit {0}
-FullAtTicks (e ∷ s) h = (ticked e ≡ true → wanted (s ++ h) ≡ 2) × FullAtTicks s h
+unfoldable pub fullAtTicks : OwnHistory → OwnHistory → Bool
+fullAtTicks [] h = true
+fullAtTicks (e ∷ s) h = cond (ticked e) (eqb 2 (wanted (s ++ h))) true && fullAtTicks s h
 
 -- a request to start stands unanswered: no call says ok to it
 unfoldable pub waiting : ℕ → OwnHistory → Bool
@@ -177,9 +252,9 @@ waiting c [] = false
 waiting c (e ∷ h) = cond (hands 1 c 1 e) true (cond (isAnswer c 1 (e .sight)) false (waiting c h))
 
 -- every request to start is answered before the next tick
-unfoldable pub Prompt : Network → OwnHistory → Type 0
-Prompt n [] = Unit {0}
-Prompt n (e ∷ h) = (ticked e ≡ true → (c : ℕ) → member c (controllersOf n) ≡ true → waiting c h ≡ false) × Prompt n h
+unfoldable pub promptly : Network → OwnHistory → Bool
+promptly n [] = true
+promptly n (e ∷ h) = cond (ticked e) (not (any (λ (c : ℕ). waiting c h) (controllersOf n))) true && promptly n h
 
 -- a controller of the network answers the request to start with not ok
 abbrev pub saysNo : Network → Seen → Bool
@@ -187,18 +262,18 @@ saysNo n e = any (λ (c : ℕ). isAnswer c 0 (e .sight) && e .accepted) (control
 
 -- the good conditions: s follows the bus-off at the head of h
 pub record GoodConditions (n : Network) (s h : OwnHistory) : Type 0 where
-  pub full : FullAtTicks s h
-  pub prompt : Prompt n s
+  pub full : fullAtTicks s h ≡ true
+  pub prompt : promptly n s ≡ true
   pub only-ok : never (saysNo n) s
   pub calm : never fell s
 
 -- a tick t tells full exactly if it is the one numbered delay plus two after the bus-off b
 abbrev pub OnJustThatTick : Network → Seen → OwnHistory → Seen → OwnHistory → Type 0
 OnJustThatTick n t s b h =
-    fellUp n b ≡ true → GoodConditions n (t ∷ s) (b ∷ h) → ticked t ≡ true
+    fellUp n b h ≡ true → GoodConditions n (t ∷ s) (b ∷ h) → ticked t ≡ true
     → hands 6 (n .handle) 2 t ≡ eqb (delayAt n (b ∷ h) + 2) (tally ticked (t ∷ s))
 
 -- the same by the mode last told: silent up to that tick, full from it on
 abbrev pub SaidFrom : Network → OwnHistory → Seen → OwnHistory → Type 0
 SaidFrom n s b h =
-    fellUp n b ≡ true → GoodConditions n s (b ∷ h) → told n (s ++ (b ∷ h)) ≡ cond (leb (delayAt n (b ∷ h) + 2) (tally ticked s)) 2 1
+    fellUp n b h ≡ true → GoodConditions n s (b ∷ h) → told n (s ++ (b ∷ h)) ≡ cond (leb (delayAt n (b ∷ h) + 2) (tally ticked s)) 2 1

@@ -14,7 +14,7 @@ use Rattle.steps.specs.declared.Step.the-variants.{Full, Silent, ClearWake, Che
 use Rattle.steps.specs.declared.Outfit.{Outfit}
 use Rattle.steps.specs.declared.Move.{Move}
 use Rattle.steps.specs.declared.Ask.{Ask}
-use Rattle.steps.specs.Steps.{asksFor, isUp, isFullStep, isAsk, isAsking}
+use Rattle.steps.specs.Steps.{fullPhase, asksFor, isUp, isFullStep, isAsk, isAsking}
 use Rattle.steps.specs.Decision.{decision}
 use Rattle.steps.specs.After.{firstDown, stepAfter}
 use Rattle.network.specs.declared.LastAnswer.{LastAnswer}
@@ -44,7 +44,7 @@ abbrev ToldFits : Step → Mode → Move → Type 0
 ToldFits step wanted m =
     (told : Mode) (partial : Bool) → isFullMode told ≡ isFullStep step → isFullMode (toldAfter m told) ≡ isFullStep (stepAfter m step partial)
 
-lowered-not-full : (told : Mode) → isFullMode (lowered told) ≡ false
+pub lowered-not-full : (told : Mode) → isFullMode (lowered told) ≡ false
 lowered-not-full Mode.No = refl
 lowered-not-full Mode.Silent = refl
 lowered-not-full Mode.Full = refl
@@ -62,7 +62,7 @@ told-fits done = record {
   fills = λ step wanted q told partial e. refl;
   starts = λ step wanted d a told partial e. refl;
   silences = λ step wanted q told partial e. refl;
-  waits = λ step wanted d a f told partial e. e ∙ f;
+  waits = λ step wanted d a f told partial e. e ∙ ap fullPhase f;
   goes-down = λ step o told partial e. lowered-not-full told ∙ sym (first-down-not-full partial);
   ends = λ step wanted u told partial e. refl;
   enters = λ step next wanted a u f told partial e. e ∙ sym f;

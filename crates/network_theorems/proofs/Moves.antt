@@ -5,13 +5,14 @@ use Rattle.steps.specs.declared.Step.{Step}
 use Rattle.steps.specs.declared.Step.the-variants.{NoCommunication, TransceiverNormal, ControllersStopped, ControllersStarted}
 use Rattle.steps.specs.declared.Step.the-variants.{Checking, Full, Restarting, Waiting, Silent}
 use Rattle.steps.specs.declared.Step.the-variants.{ClearWake, DownStopped, TransceiverStandby, ControllersSleep, CheckWake, CheckWakeAgain}
+use Rattle.steps.specs.declared.Phase.{Phase}
 use Rattle.steps.specs.declared.Outfit.{Outfit}
 use Rattle.steps.specs.declared.Outfit.the-variants.{Bare, Fitted, Partial}
 use Rattle.steps.specs.declared.Move.{Move}
 use Rattle.steps.specs.declared.Move.the-variants.{Stay, AskAgain, Count, EnterFull, EnterSilent, Pass, Wait, GoDown, EnterNoCommunication, Enter}
-use Rattle.steps.specs.Steps.{asksFor, isOn, isUp, isFullStep, isAsking, asksToStart}
+use Rattle.steps.specs.Steps.{phaseOf, asksFor, isOn, isUp, isFullStep, isAsking, asksToStart}
 use Rattle.steps.specs.Decision.{byMode, byPartial, byTransceiver, whenDone, ruleOf, decision}
-use Rattle.network_theorems.specs.Kept.{Quiet}
+use Rattle.network_theorems.specs.Kept.{Quiet, Unsaid}
 
 -- P step wanted move, for each kind of move, with what is known of the steps that it leaves and enters, and where a step is left because it is
 -- done, that it is
@@ -23,13 +24,13 @@ pub record ByMove (done : Bool) (P : Step → Mode → Move → Type 0) : Type 0
   -- 4
   pub passes : (step : Step) (wanted : Mode) → Quiet step → isFullStep step ≡ true → P step wanted Pass
   -- 7 and 8
-  pub fills : (step : Step) (wanted : Mode) → Quiet step → P step wanted EnterFull
+  pub fills : (step : Step) (wanted : Mode) → Unsaid step → P step wanted EnterFull
   -- 3
   pub starts : (step : Step) (wanted : Mode) → done ≡ true → asksToStart (asksFor step) ≡ true → P step wanted EnterFull
   -- 4, 5 and 7
   pub silences : (step : Step) (wanted : Mode) → Quiet step → P step wanted EnterSilent
   -- 6
-  pub waits : (step : Step) (wanted : Mode) → done ≡ true → asksToStart (asksFor step) ≡ true → isFullStep step ≡ false → P step wanted Wait
+  pub waits : (step : Step) (wanted : Mode) → done ≡ true → asksToStart (asksFor step) ≡ true → phaseOf step ≡ Phase.Recovering → P step wanted Wait
   -- 1 to 8
   pub goes-down : (step : Step) → isOn step ≡ true → P step Mode.No GoDown
   -- the last down step
@@ -86,11 +87,12 @@ module _ (P : Step → Mode → Move → Type 0) (done : Bool) (by : ByMove done
   ruled Restarting wanted refused reached outfit = when-done _ _ _ refl (λ d. by .waits _ _ d refl refl)
   ruled (Waiting t) wanted refused reached outfit =
       let quiet : Quiet (Waiting t) = record { up = refl; quiet = refl } in
+      let unsaid : Unsaid (Waiting t) = record { up = refl; quiet = refl; unsaid = refl } in
       either reached _ _
-      (by-mode wanted _ _ _ (by .fills _ _ quiet) (by .silences _ _ quiet) (by .fills _ _ quiet))
+      (by-mode wanted _ _ _ (by .fills _ _ unsaid) (by .silences _ _ quiet) (by .fills _ _ unsaid))
       (by .counts _ _ _ quiet (record { up = refl; quiet = refl }) refl)
   ruled Silent wanted refused reached outfit =
-      by-mode wanted _ _ _ (by .stays _ _) (by .stays _ _) (by .fills _ _ (record { up = refl; quiet = refl }))
+      by-mode wanted _ _ _ (by .stays _ _) (by .stays _ _) (by .fills _ _ (record { up = refl; quiet = refl; unsaid = refl }))
   ruled ClearWake wanted refused reached outfit =
       when-done _ _ _ refl (λ d. by-partial outfit _ _ (by .stays _ _) (by .enters _ _ _ refl refl refl))
   ruled DownStopped wanted refused reached outfit =

@@ -3,8 +3,9 @@ use Rattle.lists.proofs.Tests.{split}
 use Rattle.lists.proofs.Basics.{ℕ, eqb-true, _≡_, refl, List, [], true, false, true≢false, eqb, ltb}
 use Rattle.lists.specs.Lists.{any, every}
 use Rattle.records.specs.declared.Mode.{Mode}
+use Rattle.records.specs.declared.NamedMode.{NamedMode}
 use Rattle.records.specs.declared.Record.{Record}
-use Rattle.records.specs.Records.{modeNumber}
+use Rattle.records.specs.Records.{modeNumber, byNamed}
 use Rattle.settings.specs.declared.Network.{Network}
 use Rattle.settings.specs.Good.{InRange}
 use Rattle.steps.specs.Steps.{asksFor, asksToStart, isUp}
@@ -41,9 +42,10 @@ module _ (s : State) (Q : Part → Type 0) where
       → Q (declined s Reply.NotUp) → Q (declined s Reply.OutOfRange) → Q (requestPart s number)
   unfolding requestPart
   by-request number may not-up out =
-      split Q (eqb number 0) (λ e. by-mode Mode.No (may Mode.No (eqb-true number 0 e)) not-up)
-      (λ _. split Q (eqb number 1) (λ e. by-mode Mode.Silent (may Mode.Silent (eqb-true number 1 e)) not-up)
-      (λ _. split Q (eqb number 2) (λ e. by-mode Mode.Full (may Mode.Full (eqb-true number 2 e)) not-up) (λ _. out)))
+      let Named : NamedMode → Type 0 = λ named. Q (byNamed named (wantedPart s) (declined s Reply.OutOfRange)) in
+      split Named (eqb number 0) (λ e. by-mode Mode.No (may Mode.No (eqb-true number 0 e)) not-up)
+      (λ _. split Named (eqb number 1) (λ e. by-mode Mode.Silent (may Mode.Silent (eqb-true number 1 e)) not-up)
+      (λ _. split Named (eqb number 2) (λ e. by-mode Mode.Full (may Mode.Full (eqb-true number 2 e)) not-up) (λ _. out)))
 
   -- what is reported
   pub by-report : (report : Report) (after : State) → (takesReport s report ≡ true → Q (taken after)) → (outOfRange report ≡ true →

@@ -23,6 +23,12 @@ pub record Quiet (step : Step) : Type 0 where
   pub up : isUp step ≡ true
   pub quiet : isAsking step ≡ false
 
+-- one of which full is not said: 7 and 8
+pub record Unsaid (step : Step) : Type 0 where
+  pub up : isUp step ≡ true
+  pub quiet : isAsking step ≡ false
+  pub unsaid : isFullStep step ≡ false
+
 -- it holds of a network's record at the start, and every call keeps it
 pub record Kept (n : Network) (s : State) : Type 0 where
   -- N5: told is full exactly in steps 4 and 5

@@ -1,12 +1,15 @@
 -- The records that are handed out, and their bytes: the rules H1, H2 and H5 to H12 of docs/RULES.md.
 use Prim.Native.Nat.{ℕ, zero, suc}
 use mathlib.Core.List.{List, [], _∷_}
+use mathlib.Core.Bool.{cond}
+use lib.Dec.{eqb}
 use lib.ListN.{getD, drop}
 use Rattle.records.specs.declared.Record.{Record}
 use Rattle.records.specs.declared.ControllerMode.{ControllerMode}
 use Rattle.records.specs.declared.TransceiverMode.{TransceiverMode}
 use Rattle.records.specs.declared.PduMode.{PduMode}
 use Rattle.records.specs.declared.Mode.{Mode}
+use Rattle.records.specs.declared.NamedMode.{NamedMode}
 use Rattle.records.specs.declared.Notice.{Notice}
 use Rattle.records.specs.declared.EventStatus.{EventStatus}
 
@@ -31,6 +34,17 @@ abbrev pub modeNumber : Mode → ℕ
 modeNumber Mode.No = 0
 modeNumber Mode.Silent = 1
 modeNumber Mode.Full = 2
+
+-- R13: the mode that a number names: 0, 1 and 2 name one, and no other does
+abbrev pub modeNamed : ℕ → NamedMode
+modeNamed number =
+    cond (eqb number 0) (NamedMode.Known Mode.No)
+    (cond (eqb number 1) (NamedMode.Known Mode.Silent) (cond (eqb number 2) (NamedMode.Known Mode.Full) NamedMode.Unknown))
+
+-- one of two, by whether a number names a mode
+abbrev pub byNamed : {A : Type 0} → NamedMode → (Mode → A) → A → A
+byNamed (NamedMode.Known mode) known unknown = known mode
+byNamed NamedMode.Unknown known unknown = unknown
 
 -- H11: the number of each notice to the mode manager
 abbrev pub noticeNumber : Notice → ℕ

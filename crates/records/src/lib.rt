@@ -1,7 +1,7 @@
 // The records handed out: three bytes each, kind, target and argument, from the front of a lent buffer.
 ghost use mathlib.Core.Path.{_≡_};
 ghost use mathlib.Core.List.{[], _∷_};
-ghost use Rattle.records.specs.Records.{controllerNumber, transceiverNumber, pduNumber, modeNumber, noticeNumber, statusNumber};
+ghost use Rattle.records.specs.Records.{controllerNumber, transceiverNumber, pduNumber, modeNumber, modeNamed, noticeNumber, statusNumber};
 ghost use Rattle.records.specs.Records.{controllerMode, transceiverMode, pduMode, clearWake, checkWake, tells, notes, reports};
 ghost use Rattle.records.specs.Wrote.{Room, Wrote};
 
@@ -25,6 +25,8 @@ impl ControllerMode {
     pub const STARTED: u8 = 1;
 
     pub const SLEEP: u8 = 2;
+    // The largest number that an answer may name.
+    pub const MOST_NUMBER: u8 = ControllerMode::SLEEP;
 
     pub fn number(self) -> u8
         ensures { λ r. ⌜ r ≡ controllerNumber self ⌝ }
@@ -47,6 +49,8 @@ impl TransceiverMode {
     pub const NORMAL: u8 = 0;
 
     pub const STANDBY: u8 = 1;
+    // The largest number that a report may name. No step asks for it.
+    pub const MOST_NUMBER: u8 = 2;
 
     pub fn number(self) -> u8
         ensures { λ r. ⌜ r ≡ transceiverNumber self ⌝ }
@@ -86,12 +90,30 @@ pub enum Mode {
     Full,
 }
 
+// The mode that a number names, if any.
+pub enum NamedMode {
+    Known(Mode),
+    Unknown,
+}
+
 impl Mode {
     pub const NO: u8 = 0;
 
     pub const SILENT: u8 = 1;
 
     pub const FULL: u8 = 2;
+
+    // The mode with this number.
+    pub fn from_number(number: u8) -> NamedMode
+        ensures { λ r. ⌜ r ≡ modeNamed number ⌝ }
+    {
+        match number {
+            Mode::NO => NamedMode::Known(Mode::No),
+            Mode::SILENT => NamedMode::Known(Mode::Silent),
+            Mode::FULL => NamedMode::Known(Mode::Full),
+            _ => NamedMode::Unknown,
+        }
+    }
 
     pub fn number(self) -> u8
         ensures { λ r. ⌜ r ≡ modeNumber self ⌝ }

@@ -46,6 +46,9 @@ pub enum Holder {
 }
 
 impl Network {
+    // A network has one to four controllers.
+    pub const FEWEST_CONTROLLERS: usize = 1;
+
     pub const MOST_CONTROLLERS: usize = 4;
     // S5, S6, S8: controller ids, transceiver ids and thresholds are below these.
     pub const CONTROLLER_IDS: u8 = 32;

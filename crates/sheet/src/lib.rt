@@ -7,7 +7,6 @@ ghost use Rattle.sheet.specs.Numbers.{verdictNumber, writtenNumber};
 use entries::Fault;
 pub use reader::read;
 pub use reader::read_from;
-pub use reader::read_rest;
 use settings::Settings;
 pub use writer::sheet_length;
 pub use writer::write;

@@ -59,61 +59,67 @@ fn push_network(settings: Settings, network: Network) -> Settings
     next
 }
 
-// S2: what follows where a network may begin.
-fn read_sheet(bytes: &[u8], at: usize, settings: Settings) -> Reading
-    ensures { λ r. ⌜ r ≡ sheet (rowAt (now (bytes .entry)) at) settings ⌝ }
+// A field of a sheet that is refused, at its place.
+fn refuse_entry(fault: Fault, entry: Entry, at: usize) -> Reading
+    ensures { λ r. ⌜ r ≡ refusedAt fault (placeOf fault entry at) ⌝ }
 {
-    let found = entries::entry_at(bytes, at);
-    let entry = found.entry;
-    match entries::open_network(settings, entry) {
-        Opening::Closes => close_sheet(settings, at),
+    refuse(fault, place_of(fault, entry, at))
+}
+
+// S2: what follows where a network may begin.
+fn read_sheet<'a>(reader: Reader<'a>, settings: Settings) -> Reading
+    ensures { λ r. ⌜ r ≡ sheet (rowAt (now (reader .entry .bytes)) (reader .entry .place)) settings ⌝ }
+{
+    let found = entries::next_entry(reader);
+    let opening = entries::open_network(settings, found.entry);
+    match opening {
+        Opening::Closes => close_sheet(settings, reader.place),
         Opening::Begins(handle) => {
             let begun = entries::begin_network(handle);
-            read_network(bytes, found.next, settings, begun, Progress::Named)
+            read_network(
+                reader.moved_to(found.next),
+                settings,
+                begun,
+                Progress::Named,
+            )
         }
-        Opening::Refuses(fault) => refuse(fault, place_of(fault, entry, at)),
+        Opening::Refuses(fault) => refuse_entry(fault, found.entry, reader.place),
     }
 }
 
 // S2, S26: what follows within a network.
-fn read_network(
-    bytes: &[u8],
-    at: usize,
+fn read_network<'a>(
+    reader: Reader<'a>,
     settings: Settings,
     part: Network,
     progress: Progress,
 ) -> Reading
     requires { ⌜ settings .count < 8 ⌝ }
-    ensures { λ r. ⌜ r ≡ network (rowAt (now (bytes .entry)) at) settings part progress ⌝ }
+    ensures { λ r. ⌜ r ≡ network (rowAt (now (reader .entry .bytes)) (reader .entry .place)) settings part progress ⌝ }
 {
-    let found = entries::entry_at(bytes, at);
-    let entry = found.entry;
-    let filled = entries::fill_network(settings, part, progress, entry);
+    let found = entries::next_entry(reader);
+    let filled = entries::fill_network(settings, part, progress, found.entry);
     let filling = filled.filling;
-    let after = filled.network;
     match filling {
-        Filling::More(next) => read_network(bytes, found.next, settings, after, next),
+        Filling::More(next) => read_network(
+            reader.moved_to(found.next),
+            settings,
+            filled.network,
+            next,
+        ),
         Filling::Whole => {
-            let more = push_network(settings, after);
-            read_sheet(bytes, found.next, more)
+            let more = push_network(settings, filled.network);
+            read_sheet(reader.moved_to(found.next), more)
         }
-        Filling::Refused(fault) => refuse(fault, place_of(fault, entry, at)),
+        Filling::Refused(fault) => refuse_entry(fault, found.entry, reader.place),
     }
-}
-
-// The settings that the bytes from a place on say.
-pub fn read_rest(bytes: &[u8], at: usize) -> Reading
-    ensures { λ r. ⌜ r ≡ readFrom (now (bytes .entry)) at ⌝ }
-{
-    let settings = Settings::blank();
-    read_sheet(bytes, at, settings)
 }
 
 // S13: the settings that the unread bytes of a reader say.
 pub fn read_from<'a>(reader: Reader<'a>) -> Reading
     ensures { λ r. ⌜ r ≡ readFrom (now (reader .entry .bytes)) (reader .entry .place) ⌝ }
 {
-    read_rest(reader.bytes, reader.place)
+    read_sheet(reader, Settings::blank())
 }
 
 // The settings that a sheet says.

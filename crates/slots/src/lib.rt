@@ -10,6 +10,7 @@ use entries::Fault;
 pub use finding::slot_of;
 use network::State;
 use records::Mode;
+use records::Record;
 pub use room::gate_of;
 pub use room::tick_needs;
 use settings::Network;
@@ -68,12 +69,14 @@ pub enum Answer {
 }
 
 impl Answer {
+    pub const ACCEPTED: u8 = 0x00;
+
     // R1, R7 to R15, K6: the number of this answer.
     pub fn number(self) -> u8
         ensures { λ r. ⌜ r ≡ answerNumber self ⌝ }
     {
         match self {
-            Answer::Accepted => 0x00,
+            Answer::Accepted => Answer::ACCEPTED,
             Answer::NotReady => 0x01,
             Answer::Running => 0x0B,
             Answer::TooShort => 0x20,
@@ -126,10 +129,17 @@ impl Outcome {
 }
 
 impl Manager {
-    // R17: the bytes that a bus-off needs, for three records.
-    pub const BUS_OFF_NEEDS: usize = 9;
+    // R17: the most records of a bus-off, and the bytes that they need.
+    pub const BUS_OFF_RECORDS: usize = 3;
+
+    pub const BUS_OFF_NEEDS: usize = Record::SIZE * Manager::BUS_OFF_RECORDS;
     // The most records of a tick that name a network's handle and no controller.
     pub const NOTICES: usize = 2;
+    // The most records of a tick, and the bytes that they need.
+    pub const TICK_RECORDS: usize = Settings::MOST_NETWORKS
+        * (Network::MOST_CONTROLLERS + Manager::NOTICES);
+
+    pub const TICK_NEEDS: usize = Record::SIZE * Manager::TICK_RECORDS;
 
     // The network of a slot; past the slots it is blank.
     pub fn network_at(self, at: usize) -> Network

@@ -16,8 +16,8 @@ fn share_of(network: Network) -> usize
     ensures { λ r. ⌜ (r ≡ share network) × (r ≤ 6) ⌝ }
 {
     let count = network.count as usize;
-    if count < 1 {
-        return 1 + Manager::NOTICES;
+    if count < Network::FEWEST_CONTROLLERS {
+        return Network::FEWEST_CONTROLLERS + Manager::NOTICES;
     }
     if count < Network::MOST_CONTROLLERS {
         return count + Manager::NOTICES;

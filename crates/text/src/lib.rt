@@ -15,6 +15,8 @@ impl Text {
     pub const COLON: u8 = 0x3A;
 
     pub const NEWLINE: u8 = 0x0A;
+    // The most decimal digits of a number of 64 bits.
+    pub const MOST_DIGITS: usize = 20;
 }
 
 // One byte.
@@ -45,7 +47,7 @@ fn put_digits(line: &mut [u8], at: usize, number: u64) -> usize
     requires { ⌜ at + length (decimal number) ≤ length (now line) ⌝ }
     ensures { λ r. ⌜ Stored (now (line .entry)) at (decimal number) r (now (line .exit)) ⌝ }
 {
-    let mut digits = [0u8; 20];
+    let mut digits = [0u8; Text::MOST_DIGITS];
     let count = io::decimal(number, &mut digits);
     put_text(line, at, &digits[..count])
 }

@@ -7,7 +7,7 @@ use Rattle.slots.specs.declared.Outcome.{Outcome}
 use Rattle.slots.specs.Calls.{Call, outcome, handedOut, bufferWith, Gives}
 use Rattle.trace.specs.declared.Event.{Event}
 use Rattle.trace.specs.declared.Item.{Item}
-use Rattle.trace.specs.Events.{eventOf, itemOf, lent, callOf}
+use Rattle.trace.specs.Events.{eventOf, itemOf, callOf}
 
 -- ---- the value of a field, at its place
 value-length : (s : List ℕ) (at n : ℕ) → at + n ≤ length s → length (take n (drop at s)) ≡ n
@@ -28,13 +28,12 @@ item-whole s at tag n a b c item h p q r e = e ∙ rw (value-length s at n h, p,
 -- ---- the call that an event is
 -- a call that is lent no buffer leaves every byte of it
 pub quiet-gives : (m : Manager) (event e : Event) (r : Outcome) {b : List ℕ} →
-    event ≡ e → r ≡ outcome m (callOf e) → handedOut m (callOf e) ≡ [] → b ≡ lent → Gives m (callOf event) lent r b
+    event ≡ e → r ≡ outcome m (callOf e) → handedOut m (callOf e) ≡ [] → Gives m (callOf event) b r b
 unfolding bufferWith bytes
-quiet-gives m event e r {b} p q none l =
-    subst (λ (x : Event). Gives m (callOf x) lent r b) (sym p) (record { result = q; buffer = l ∙ ap (bufferWith lent) (sym none) })
+quiet-gives m event e r {b} p q none =
+    subst (λ (x : Event). Gives m (callOf x) b r b) (sym p) (record { result = q; buffer = ap (bufferWith b) (sym none) })
 
 -- a call that is lent the whole buffer
-pub lent-gives : (m : Manager) (event : Event) (call : List ℕ → Call) (r : Outcome) (b : List ℕ) {after : List ℕ} →
-    callOf event ≡ call lent → b ≡ lent → Gives m (call b) b r after → Gives m (callOf event) lent r after
-lent-gives m event call r b {after} p l g =
-    subst (λ (x : Call). Gives m x lent r after) (sym p) (subst (λ (x : List ℕ). Gives m (call x) x r after) l g)
+pub lent-gives : (m : Manager) (event : Event) (call : ℕ → Call) (r : Outcome) (b : List ℕ) {after : List ℕ} →
+    callOf event ≡ call 144 → length b ≡ 144 → Gives m (call (length b)) b r after → Gives m (callOf event) b r after
+lent-gives m event call r b {after} p l g = subst (λ (x : Call). Gives m x b r after) (ap call l ∙ sym p) g

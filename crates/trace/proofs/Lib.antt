@@ -2,3 +2,4 @@ pub mod Splits
 pub mod EventLaws
 pub mod Telling
 pub mod Theorems
+pub mod Blocks

@@ -1,27 +1,28 @@
 -- Laws of lines: what an event hands out fits, and a line is stored piece by piece.
-use Rattle.lists.proofs.Basics.{ℕ, _+_, _*_, _≤_, _<_, arith, eq-eqb, ne-eqb, _≡_, sym, ap, _∙_, List, [], _∷_, _++_, append-assoc, Bool, true}
-use Rattle.lists.proofs.Basics.{false, cond, eqb, length, take, drop, length-append, refl}
+use Rattle.lists.proofs.Basics.{ℕ, _+_, _≤_, _<_, arith, eq-eqb, ne-eqb, _≡_, sym, ap, subst, _∙_, List, [], _∷_, _++_, append-assoc, Bool, true}
+use Rattle.lists.proofs.Basics.{false, cond, eqb, length, take, drop, refl}
 use Rattle.lists.specs.Stores.{Stored}
 use Rattle.lists.proofs.Stores.{stored-then}
 use Rattle.fields.specs.declared.Field.{Field}
 use Rattle.fields.specs.declared.Field.the-variants.{Stub, Overrun, Whole}
-use Rattle.fields.specs.Fields.{front, nextOf}
+use Rattle.fields.specs.Fields.{front, nextOf, ReadAt}
 use Rattle.fields.proofs.Laws.{row-further, rowFrom, row-from}
-use Rattle.records.specs.Records.{bytes, recordsAt}
-use Rattle.records.proofs.Laws.{length-bytes}
+use Rattle.records.specs.Records.{recordsAt}
 use Rattle.slots.specs.declared.Manager.{Manager}
 use Rattle.slots.specs.declared.Outcome.{Outcome}
 use Rattle.slots.specs.Manager.{answerNumber}
-use Rattle.slots.specs.Calls.{read, start, newManager, outcome, handedOut, bufferWith, Gives}
+use Rattle.slots.specs.Calls.{read, start, newManager, outcome, Gives}
 use Rattle.calls.specs.Histories.{roomOf, countsRecords}
 use Rattle.calls.proofs.Counts.{counted, handed-back}
 use Rattle.text.specs.Text.{blank, newline, decimal}
 use Rattle.trace.specs.declared.Event.{Event}
 use Rattle.trace.specs.declared.Item.{Item}
-use Rattle.trace.specs.Events.{itemOf, itemAt, lent, callOf}
+use Rattle.trace.specs.declared.Point.{Point}
+use Rattle.trace.specs.Events.{itemOf, itemAt, callOf}
 use Rattle.trace.specs.Splitting.{eventsFrom}
 use Rattle.trace.specs.Lines.{configLine, polls, saidOf, entryLine, eventLine}
-use Rattle.trace.specs.Trace.{itemNext, nextAt, readingOf, firstLine, firstManager, firstNext, TellsFirst}
+use Rattle.trace.specs.Trace.{moved, itemManager, itemNext, lineOf, pointPast, TellsItem, nextAt, lineAt, pointAfter, TellsAt, readingOf}
+use Rattle.trace.specs.Trace.{firstLine, firstManager, firstNext, firstPoint, TellsFirst}
 
 -- ---- what an event hands out
 -- the count of its call is that of records
@@ -46,29 +47,43 @@ event-room (Event.CheckDone transceiver) = omega arith
 event-room Event.Tick = omega arith
 event-room (Event.Poll handle) = omega arith
 
--- the records lie in the buffer, and there are at most 48
-pub event-fits : (m : Manager) (event : Event) (o : Outcome) (buffer : List ℕ) → Gives m (callOf event) lent o buffer
-    → (3 * o .count ≤ length buffer) × (o .count ≤ 48)
-unfolding bufferWith
-event-fits m event o buffer g =
-    let rs = handedOut m (callOf event) in
+-- there are at most 48 records
+pub event-fits : (m : Manager) (event : Event) (o : Outcome) {lent buffer : List ℕ} → Gives m (callOf event) lent o buffer → o .count ≤ 48
+event-fits m event o g =
     let k = counted m (callOf event) in
-    rw (g .result, g .buffer, k .count (event-counts event))
-    (omega (arith, length-append (bytes rs) (drop (3 * length rs) lent), length-bytes rs), omega (arith, k .room, event-room event))
+    rw (g .result, k .count (event-counts event)) (omega (arith, k .room, event-room event))
 
 -- ---- a line
 pub event-stored : (number : ℕ) (m : Manager) (event : Event) (o : Outcome) (buffer : List ℕ) (answer : ℕ) (polled : Bool)
-    {b b₁ b₂ b₃ : List ℕ} {i i₁ i₂ i₃ : ℕ} → Gives m (callOf event) lent o buffer → answer ≡ answerNumber (o .answer) → polled ≡ polls (callOf event)
+    {lent b b₁ b₂ b₃ : List ℕ} {i i₁ i₂ i₃ : ℕ} → Gives m (callOf event) lent o buffer
+    → answer ≡ answerNumber (o .answer) → polled ≡ polls (callOf event)
     → Stored b i (decimal number ++ (blank ∷ decimal answer)) i₁ b₁ → Stored b₁ i₁ (saidOf polled (o .mode) (recordsAt (o .count) buffer)) i₂ b₂
     → Stored b₂ i₂ (newline ∷ []) i₃ b₃ → Stored b i (eventLine number m event) i₃ b₃
 unfolding eventLine entryLine
-event-stored number m event o buffer answer polled {b} {b₁} {b₂} {b₃} {i} {i₁} {i₂} {i₃} g r t s s₁ s₂ =
+event-stored number m event o buffer answer polled {lent} {b} {b₁} {b₂} {b₃} {i} {i₁} {i₂} {i₃} g r t s s₁ s₂ =
     let said = saidOf polled (o .mode) (recordsAt (o .count) buffer) ++ (newline ∷ []) in
     let back = handed-back m (callOf event) lent o buffer (event-counts event) g in
     let e : (decimal number ++ (blank ∷ decimal answer)) ++ said ≡ eventLine number m event =
     append-assoc (decimal number) (blank ∷ decimal answer) said ∙ rw (r, t, back, g .result) refl in
     let whole : Stored b i ((decimal number ++ (blank ∷ decimal answer)) ++ said) i₃ b₃ = stored-then s (stored-then s₁ s₂) in
     rw e at whole
+
+-- ---- what a line leaves
+pub tells-item : (p : Point) (item : Item) (next : ℕ) {m : Manager} {k : ℕ} {r : Point} {before after : List ℕ} → r ≡ moved p m next k
+    → m ≡ itemManager (p .manager) item → Stored before (p .length) (lineOf p item) k after → k ≤ p .length + 601
+    → TellsItem p item next r before after
+tells-item p item next {m} {k} {r} {before} {after} e manager line h =
+    let same : moved p m next k ≡ pointPast p item next = λ i. moved p (manager i) next (line .place i) in
+    subst (λ (q : Point). TellsItem p item next q before after) (sym e) (record { point = same; line = line; room = h })
+
+-- by what was found at the point's place
+pub tells-at : (s : List ℕ) (p : Point) {found : Item} {n : ℕ} (item : Item) {r : Point} {before after : List ℕ} → ReadAt itemAt s (p .next) found n
+    → found ≡ item → TellsItem p item (itemNext (length s) n item) r before after → TellsAt s p r before after
+unfolding lineAt pointAfter nextAt
+tells-at s p {found} {n} item {r} {before} {after} f e t =
+    let placed = subst (λ (k : ℕ). TellsItem p item (itemNext (length s) k item) r before after) (f .where-next) t in
+    subst (λ (x : Item). TellsItem p x (itemNext (length s) (nextOf (front (p .next) (drop (p .next) s)) (p .next)) x) r before after)
+    (sym e ∙ f .what) placed
 
 -- ---- the first line
 module _ (s : List ℕ) {at : ℕ} {m : Manager} {o begun : Outcome} {number : ℕ} (p : at ≡ eventsFrom s 0) (q : m ≡ newManager)
@@ -82,20 +97,24 @@ module _ (s : List ℕ) {at : ℕ} {m : Manager} {o begun : Outcome} {number : �
 
   module _ {before after : List ℕ} {k : ℕ} where
     -- by whether the sheet was accepted
-    told : (accepted : Bool) → eqb (answerNumber (readingOf s .answer)) 0 ≡ accepted → (next : ℕ) →
-        next ≡ cond accepted (eventsFrom s 0) (length s) → Stored before 0 (configLine number (cond accepted (o .count) (o .place))) k after →
-        TellsFirst s (record { manager = begun .manager; next = next; length = k }) before after
-    unfolding firstManager firstNext firstLine
-    told accepted e next h line =
-        record { manager-after = rw (t, reading) refl; next-place = h ∙ rw e refl; line = rw (e, ← reading, ← n) line }
+    told : (accepted : Bool) → eqb (answerNumber (readingOf s .answer)) 0 ≡ accepted → (next : ℕ) → next ≡ cond accepted (eventsFrom s 0) (length s)
+        → Stored before 0 (configLine number (cond accepted (o .count) (o .place))) k after × (k ≤ 601)
+        → TellsFirst s (record { manager = begun .manager; next = next; number = 1; length = k }) before after
+    unfolding firstPoint firstManager firstNext firstLine
+    told accepted e next h l =
+        let line : Stored before 0 (firstLine s) k after = rw (e, ← reading, ← n) (l .0) in
+        let started : begun .manager ≡ firstManager s = rw (t, reading) refl in
+        let place : next ≡ firstNext s = h ∙ rw e refl in
+        let size : k ≡ length (firstLine s) = omega (arith, line .place) in
+        record { point = λ i. record { manager = started i; next = place i; number = 1; length = size i }; line = line; room = l .1 }
 
-    pub first-accepted : number ≡ 0 → Stored before 0 (configLine number (o .count)) k after →
-        TellsFirst s (record { manager = begun .manager; next = at; length = k }) before after
-    first-accepted z line = told true (eq-eqb (answerNumber (readingOf s .answer)) 0 (answer ∙ z)) at p line
+    pub first-accepted : number ≡ 0 → Stored before 0 (configLine number (o .count)) k after × (k ≤ 601) →
+        TellsFirst s (record { manager = begun .manager; next = at; number = 1; length = k }) before after
+    first-accepted z l = told true (eq-eqb (answerNumber (readingOf s .answer)) 0 (answer ∙ z)) at p l
 
-    pub first-refused : (number ≡ 0 → ⊥) → Stored before 0 (configLine number (o .place)) k after →
-        TellsFirst s (record { manager = begun .manager; next = length s; length = k }) before after
-    first-refused z line = told false (ne-eqb (answerNumber (readingOf s .answer)) 0 (λ e. z (sym answer ∙ e))) (length s) refl line
+    pub first-refused : (number ≡ 0 → ⊥) → Stored before 0 (configLine number (o .place)) k after × (k ≤ 601) →
+        TellsFirst s (record { manager = begun .manager; next = length s; number = 1; length = k }) before after
+    first-refused z l = told false (ne-eqb (answerNumber (readingOf s .answer)) 0 (λ e. z (sym answer ∙ e))) (length s) refl l
 
 -- ---- the loop: the next line's event stands further on
 module _ (s : List ℕ) (at : ℕ) (h : at < length s) where

@@ -1,20 +1,21 @@
--- The lines that the program writes are those of the definitions: the sheet split off and read, the events decoded and run one after the other.
-use Rattle.lists.proofs.Basics.{ℕ, zero, suc, _+_, _-_, _≤_, _<_, arith, lt-ltb, le-ltb, _≡_, sym, ap, subst, List, [], _∷_, _++_, Bool, true, false}
-use Rattle.lists.proofs.Basics.{cond, eqb, length, take, drop, length-drop, refl}
+-- The lines that go into blocks are those of the definitions: the sheet split off and read, the events decoded and run one after the other.
+use Rattle.lists.proofs.Basics.{ℕ, _+_, _≤_, _<_, arith, lt-ltb, le-ltb, _≡_, refl, sym, ap, subst, _∙_, List, [], _∷_, _++_, Bool, true, false}
+use Rattle.lists.proofs.Basics.{cond, eqb, length, take, drop, length-drop}
 use Rattle.fields.specs.declared.Field.{Field}
 use Rattle.fields.specs.declared.Field.the-variants.{Stub, Overrun, Whole}
-use Rattle.fields.specs.Fields.{Row, front, rowAt, nextOf}
+use Rattle.fields.specs.Fields.{front, rows, rowAt, nextOf}
 use Rattle.fields.proofs.Laws.{Lies, front-lies, row-further, row-from}
 use Rattle.slots.specs.declared.Manager.{Manager}
 use Rattle.slots.specs.Manager.{answerNumber}
-use Rattle.slots.specs.Calls.{outcome}
 use Rattle.trace.specs.declared.Event.{Event}
 use Rattle.trace.specs.declared.Item.{Item}
+use Rattle.trace.specs.declared.Point.{Point}
 use Rattle.trace.specs.Splitting.{eventsFrom}
-use Rattle.trace.specs.Events.{sized, eventOf, itemOf, itemAt, callOf}
-use Rattle.trace.specs.Lines.{stopLine, eventLine, tooLong}
-use Rattle.trace.specs.Trace.{itemLine, itemManager, itemNext, lineAt, managerAt, nextAt, readingOf, firstLine, firstManager, firstNext}
-use Rattle.trace.specs.Trace.{decoded, decodedItem, ending, endingItem, runLines, eventLines, linesAfter, traceOf, Prints, over, more}
+use Rattle.trace.specs.Events.{sized, eventOf, itemOf, itemAt}
+use Rattle.trace.specs.Lines.{stopLine, tooLong}
+use Rattle.trace.specs.Trace.{itemLine, itemManager, itemNext, lineAt, nextAt, pointAfter, readingOf, firstLine, firstManager, firstNext}
+use Rattle.trace.specs.Trace.{firstPoint, decoded, decodedItem, ending, endingItem, runLines, eventLines, linesAfter, traceOf, left}
+use Rattle.trace.specs.Trace.{Fills, over, full, more}
 
 -- ---- a whole field is an event or bad
 pub data Decided : Item → Type 0 where
@@ -40,101 +41,89 @@ item-decided tag v =
     (either (eqb tag 0x16) _ _ (by-size (length v) 0 _)
     (either (eqb tag 0x17) _ _ (by-size (length v) 1 _) is-bad)))))))
 
--- ---- from a place on
-module _ (s : List ℕ) (number : ℕ) (m : Manager) (at : ℕ) where
-  -- one line, and then what is written from the next place on
-  line-here : (lines : List (List ℕ)) → at < length s → Prints s (number + 1) (itemManager m (itemAt (rowAt s at))) (itemNext (length s) (nextOf
-      (front at (drop at s)) at) (itemAt (rowAt s at))) lines → Prints s number m at (itemLine (number + 1) m at (itemAt (rowAt s at)) ∷ lines)
-  unfolding lineAt managerAt nextAt
-  line-here lines h p = more number m at lines h p
+-- ---- the lines that are left
+-- at the end of the input there are none
+none-after : (s : List ℕ) (number : ℕ) (m : Manager) (at : ℕ) → length s ≤ at → eventLines number m (rowAt s at) ≡ []
+unfolding eventLines runLines decoded ending rows
+none-after s number m at h = ended (drop at s) (omega (arith, length-drop at s))
+  where
+    ended : (l : List ℕ) → length l ≤ 0 → eventLines number m (rows 0 at l) ≡ []
+    ended [] k = refl
+    ended (x ∷ l) k = absurd (omega arith)
 
-  line-then : (item : Item) (next : ℕ) (lines : List (List ℕ)) → at < length s → itemAt (rowAt s at) ≡ item →
-      nextOf (front at (drop at s)) at ≡ next → Prints s (number + 1) (itemManager m item) (itemNext (length s) next item) lines →
-      Prints s number m at (itemLine (number + 1) m at item ∷ lines)
-  line-then item next lines h e f p =
-      let at-next = subst (λ (k : ℕ). Prints s (number + 1) (itemManager m item) (itemNext (length s) k item) lines) (sym f) p in
-      let at-item = subst
-      (λ (x : Item). Prints s (number + 1) (itemManager m x) (itemNext (length s) (nextOf (front at (drop at s)) at) x) lines) (sym e) at-next in
-      subst (λ (x : Item). Prints s number m at (itemLine (number + 1) m at x ∷ lines)) e (line-here lines h at-item)
+pub over-left : (s : List ℕ) (p : Point) → length s ≤ p .next → left s p ≡ []
+unfolding left
+over-left s p h = none-after s (p .number) (p .manager) (p .next) h
+
+module _ (s : List ℕ) (number : ℕ) (m : Manager) (at : ℕ) (h : at < length s) where
+  -- the lines from a place on are the line of what stands there and those from the next place on
+  abbrev Then : List (List ℕ) → Item → ℕ → Type 0
+  Then lines item next =
+      lines ≡ itemLine number m at item ∷ eventLines (number + 1) (itemManager m item) (rowAt s (itemNext (length s) next item))
 
   -- a bad field is the last line
-  stops : at < length s → itemAt (rowAt s at) ≡ Item.Bad → Prints s number m at (stopLine at ∷ [])
-  stops h e = line-then Item.Bad (nextOf (front at (drop at s)) at) [] h e refl (over (number + 1) m (length s) (omega arith))
+  stops : (next : ℕ) → Then (stopLine at ∷ []) Item.Bad next
+  stops next = ap (λ (l : List (List ℕ)). stopLine at ∷ l) (sym (none-after s (number + 1) m (length s) (omega arith)))
 
-  -- an event's line, and then those of the fields after it
-  goes-on : (event : Event) (next : ℕ) → at < length s → itemAt (rowAt s at) ≡ Item.Known event → nextOf (front at (drop at s)) at ≡ next → Prints s
-      (number + 1) (outcome m (callOf event) .manager) next (eventLines (number + 1 + 1) (outcome m (callOf event) .manager) (rowAt s next)) →
-      Prints s number m at (eventLine (number + 1) m event ∷ eventLines (number + 1 + 1) (outcome m (callOf event) .manager) (rowAt s next))
-  goes-on event next h e f p = line-then (Item.Known event) next _ h e f p
-
-  row-prints : (row : Row) →
-      rowAt s at ≡ row → Prints s number m at (eventLines (number + 1) m row) → Prints s number m at (eventLines (number + 1) m (rowAt s at))
-  row-prints row e p = rw e p
-
-  whole-prints : (next : ℕ) (item : Item) → Decided item → at < length s → itemAt (rowAt s at) ≡ item → nextOf (front at (drop at s)) at ≡ next
-      → ((m' : Manager) → Prints s (number + 1) m' next (eventLines (number + 1 + 1) m' (rowAt s next)))
-      → Prints s number m at (runLines (number + 1) m (decodedItem item (decoded (rowAt s next))) ++ endingItem at item (ending (rowAt s next)))
+  whole-then : (next : ℕ) (item : Item) → Decided item →
+      Then (runLines number m (decodedItem item (decoded (rowAt s next))) ++ endingItem at item (ending (rowAt s next))) item next
   unfolding eventLines runLines
-  whole-prints next _ is-bad h e f later = stops h e
-  whole-prints next _ (is-known event) h e f later = goes-on event next h e f (later (outcome m (callOf event) .manager))
+  whole-then next _ is-bad = stops next
+  whole-then next _ (is-known event) = refl
 
-  prints-field : (f : Field) → front at (drop at s) ≡ f
-      → ((next : ℕ) → at < next → next ≤ length s → (m' : Manager) → Prints s (number + 1) m' next (eventLines (number + 1 + 1) m' (rowAt s next)))
-      → Prints s number m at (eventLines (number + 1) m (rowAt s at))
+  field-then : (f : Field) → front at (drop at s) ≡ f → Then (eventLines number m (rowAt s at)) (itemAt (rowAt s at)) (nextOf f at)
   unfolding eventLines decoded ending runLines itemAt
-  prints-field Field.End e later =
-      let h = subst (Lies at (drop at s)) e (front-lies at (drop at s)) in
-      row-prints _ (row-from s at Field.End e) (over number m at (omega (arith, length-drop at s, ap length h)))
-  prints-field (Stub tag) e later =
-      let h = subst (Lies at (drop at s)) e (front-lies at (drop at s)) in
-      let r = row-from s at (Stub tag) e in
-      row-prints _ r (stops (omega (arith, length-drop at s, h)) (ap itemAt r))
-  prints-field (Overrun tag n) e later =
-      let h = subst (Lies at (drop at s)) e (front-lies at (drop at s)) in
-      let r = row-from s at (Overrun tag n) e in
-      row-prints _ r (stops (omega (arith, length-drop at s, h)) (ap itemAt r))
-  prints-field (Whole tag n next) e later =
-      let r = row-further s at tag n next e in
+  field-then Field.End e = let l = subst (Lies at (drop at s)) e (front-lies at (drop at s)) in absurd (omega (arith, length-drop at s, ap length l))
+  field-then (Stub tag) e = rw (row-from s at (Stub tag) e) (stops at)
+  field-then (Overrun tag n) e = rw (row-from s at (Overrun tag n) e) (stops at)
+  field-then (Whole tag n next) e =
       let v = take n (drop (at + 3) s) in
-      row-prints _ (r .0)
-      (whole-prints next (itemOf tag v) (item-decided tag v) (omega (arith, r .1, r .2)) (ap itemAt (r .0))
-      (ap (λ (f : Field). nextOf f at) e) (later next (omega (arith, r .1)) (r .2)))
+      rw (row-further s at tag n next e .0) (whole-then next (itemOf tag v) (item-decided tag v))
 
-prints-by : (k : ℕ) (s : List ℕ) (number : ℕ) (m : Manager) (at : ℕ) →
-    length s - at < k → Prints s number m at (eventLines (number + 1) m (rowAt s at))
-prints-by zero s number m at h = absurd (omega arith)
-prints-by (suc k) s number m at h =
-    prints-field s number m at (front at (drop at s)) refl (λ next l w m'. prints-by k s (number + 1) m' next (omega arith))
+-- the lines that are left are the next line and those that are left after it
+pub next-left : (s : List ℕ) (p : Point) → p .next < length s → left s p ≡ lineAt s p ∷ left s (pointAfter s p)
+unfolding left lineAt pointAfter nextAt
+next-left s p h = field-then s (p .number) (p .manager) (p .next) h (front (p .next) (drop (p .next) s)) refl
 
-pub events-print : (s : List ℕ) (number : ℕ) (m : Manager) (at : ℕ) → Prints s number m at (eventLines (number + 1) m (rowAt s at))
-events-print s number m at = prints-by (suc (length s - at)) s number m at (omega arith)
+-- ---- a block
+-- what a block takes and what is left after it are what was left before it
+pub fills-left : (s : List ℕ) (room : ℕ) (p : Point) (lines : List (List ℕ)) (q : Point) → Fills s room p lines q → left s p ≡ lines ++ left s q
+fills-left s room p _ _ (over _ h) = refl
+fills-left s room p _ _ (full _ h k) = refl
+fills-left s room p _ q (more _ lines _ h k f) = next-left s p h ∙ ap (λ (l : List (List ℕ)). lineAt s p ∷ l) (fills-left s room _ lines q f)
+
+-- it takes just these lines, and ends at just this point
+pub fills-one : (s : List ℕ) (room : ℕ) (p : Point) (lines lines' : List (List ℕ)) (q q' : Point) →
+    Fills s room p lines q → Fills s room p lines' q' → (lines ≡ lines') × (q ≡ q')
+fills-one s room p _ _ _ _ (over _ h) (over _ h') = (refl, refl)
+fills-one s room p _ _ _ _ (over _ h) (full _ h' k') = (refl, refl)
+fills-one s room p _ _ _ _ (over _ h) (more _ _ _ h' k' f') = absurd (omega arith)
+fills-one s room p _ _ _ _ (full _ h k) (over _ h') = (refl, refl)
+fills-one s room p _ _ _ _ (full _ h k) (full _ h' k') = (refl, refl)
+fills-one s room p _ _ _ _ (full _ h k) (more _ _ _ h' k' f') = absurd (omega arith)
+fills-one s room p _ _ _ _ (more _ _ _ h k f) (over _ h') = absurd (omega arith)
+fills-one s room p _ _ _ _ (more _ _ _ h k f) (full _ h' k') = absurd (omega arith)
+fills-one s room p _ _ q q' (more _ lines _ h k f) (more _ lines' _ h' k' f') =
+    let same = fills-one s room _ lines lines' q q' f f' in
+    (ap (λ (l : List (List ℕ)). lineAt s p ∷ l) (same .0), same .1)
 
 -- ---- the whole output
 module _ (s : List ℕ) where
-  by-reading : (accepted : Bool) → Prints s 0
-      (firstManager s) (cond accepted (eventsFrom s 0) (length s)) (cond accepted (eventLines 1 (firstManager s) (rowAt s (eventsFrom s 0))) [])
-  by-reading true = events-print s 0 (firstManager s) (eventsFrom s 0)
-  by-reading false = over 0 (firstManager s) (length s) (omega arith)
+  by-reading : (accepted : Bool) → (number : ℕ) (m : Manager) →
+      cond accepted (eventLines number m (rowAt s (eventsFrom s 0))) [] ≡ eventLines number m (rowAt s (cond accepted (eventsFrom s 0) (length s)))
+  by-reading true number m = refl
+  by-reading false number m = sym (none-after s number m (length s) (omega arith))
 
-  -- after the first line the program's loop writes just the lines of the events, run one after the other on the started manager
-  pub trace-prints : Prints s 0 (firstManager s) (firstNext s) (linesAfter s)
-  unfolding firstNext linesAfter
-  trace-prints = by-reading (eqb (answerNumber (readingOf s .answer)) 0)
+  -- after the first line just the lines of the events are left, run one after the other on the started manager
+  pub first-left : linesAfter s ≡ left s (firstPoint s)
+  unfolding linesAfter left firstPoint firstNext
+  first-left = by-reading (eqb (answerNumber (readingOf s .answer)) 0) 1 (firstManager s)
 
   -- C1: too long an input has one line
   pub trace-too-long : 65536 < length s → traceOf s ≡ tooLong ∷ []
   unfolding traceOf
   trace-too-long h = rw (lt-ltb 65536 (length s) h) refl
 
-  pub trace-lines : length s ≤ 65536 → traceOf s ≡ firstLine s ∷ linesAfter s
+  pub trace-lines : length s ≤ 65536 → traceOf s ≡ firstLine s ∷ left s (firstPoint s)
   unfolding traceOf
-  trace-lines h = rw (le-ltb 65536 (length s) h) refl
-
--- the loop writes one output: two that it can write for an input are equal
-pub prints-one : (s : List ℕ) (number : ℕ) (m : Manager) (at : ℕ) (lines lines' : List (List ℕ)) →
-    Prints s number m at lines → Prints s number m at lines' → lines ≡ lines'
-prints-one s number m at _ _ (over _ _ _ h) (over _ _ _ h') = refl
-prints-one s number m at _ _ (over _ _ _ h) (more _ _ _ lines' h' p') = absurd (omega arith)
-prints-one s number m at _ _ (more _ _ _ lines h p) (over _ _ _ h') = absurd (omega arith)
-prints-one s number m at _ _ (more _ _ _ lines h p) (more _ _ _ lines' h' p') =
-    ap (λ (l : List (List ℕ)). lineAt (number + 1) m s at ∷ l) (prints-one s _ _ _ lines lines' p p')
+  trace-lines h = rw (le-ltb 65536 (length s) h) (ap (λ (l : List (List ℕ)). firstLine s ∷ l) first-left)

@@ -4,7 +4,7 @@ use Prim.Native.Nat.{ℕ}
 use mathlib.Core.List.{List}
 use mathlib.Core.Bool.{cond}
 use lib.Dec.{eqb}
-use lib.ListN.{length, getD, replicate}
+use lib.ListN.{length, getD}
 use Rattle.fields.specs.Fields.{Row, stop, stub, overrun, field}
 use Rattle.slots.specs.Calls.{Call, request, poll, busOff, answer, transceiverMode, clearDone, checkDone, tick}
 use Rattle.trace.specs.declared.Event.{Event}
@@ -38,11 +38,7 @@ itemAt (stub at tag) = Item.Bad
 itemAt (overrun at tag n) = Item.Bad
 itemAt (field at tag v rest) = itemOf tag v
 
--- C5: the buffer that each call is lent
-abbrev pub lent : List ℕ
-lent = replicate 144 0
-
--- C6: the call of the manager that an event is
+-- C5, C6: the call of the manager that an event is; a call that may hand something out is lent 144 bytes
 abbrev pub callOf : Event → Call
 callOf (Event.Request handle mode) = request handle mode
 callOf (Event.BusOff controller) = busOff controller 144

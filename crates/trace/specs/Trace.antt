@@ -1,7 +1,7 @@
 -- The lines of an input: what one call of the library gives, and the whole output. The rules C1, C6, C15 to C17 and C21 of docs/RULES.md.
 use Prim.Native.Nat.{ℕ, _+_, _<_, _≤_}
 use mathlib.Core.Path.{_≡_}
-use mathlib.Core.List.{List, [], _∷_, _++_}
+use mathlib.Core.List.{List, [], _∷_, _++_, flatten}
 use mathlib.Core.Bool.{cond}
 use lib.Dec.{eqb, ltb}
 use lib.ListN.{length, take, drop}
@@ -13,18 +13,28 @@ use Rattle.slots.specs.Manager.{answerNumber}
 use Rattle.slots.specs.Calls.{read, start, newManager, outcome}
 use Rattle.trace.specs.declared.Event.{Event}
 use Rattle.trace.specs.declared.Item.{Item}
-use Rattle.trace.specs.declared.Told.{Told}
+use Rattle.trace.specs.declared.Point.{Point}
 use Rattle.trace.specs.Splitting.{eventsFrom}
 use Rattle.trace.specs.Events.{itemOf, itemAt, callOf}
 use Rattle.trace.specs.Lines.{configLine, stopLine, eventLine, tooLong}
 
+-- ---- where a run stands
+
+-- the point after a line: the next line has the next number
+abbrev pub moved : Point → Manager → ℕ → ℕ → Point
+moved p manager next length = record { manager = manager; next = next; number = p .number + 1; length = length }
+
+-- the same point with an empty block
+abbrev pub emptied : Point → Point
+emptied p = record { manager = p .manager; next = p .next; number = p .number; length = 0 }
+
 -- ---- one line
 
--- what a line leaves: the manager after it, the place of the next line's event, and its bytes at the front of the lent line
-pub record Tells (manager : Manager) (next : ℕ) (text : List ℕ) (r : Told) (before after : List ℕ) : Type 0 where
-  pub manager-after : r .manager ≡ manager
-  pub next-place : r .next ≡ next
-  pub line : Stored before 0 text (r .length) after
+-- a line in a block, from a place on: the point after it, its bytes, and that there are no more of them than the longest line has
+pub record Tells (q : Point) (text : List ℕ) (at : ℕ) (r : Point) (before after : List ℕ) : Type 0 where
+  pub point : r ≡ q
+  pub line : Stored before at text (r .length) after
+  pub room : r .length ≤ at + 601
 
 -- C17, C21: the end gives no bytes, a bad field `stop` and its place, an event its numbered line
 abbrev pub itemLine : ℕ → Manager → ℕ → Item → List ℕ
@@ -44,21 +54,33 @@ itemNext total next Item.End = total
 itemNext total next Item.Bad = total
 itemNext total next (Item.Known event) = next
 
--- the line of what stands at a place of the input
-unfoldable pub lineAt : ℕ → Manager → List ℕ → ℕ → List ℕ
-lineAt number m s at = itemLine number m at (itemAt (rowAt s at))
+-- the line of what stands at a point's place
+abbrev pub lineOf : Point → Item → List ℕ
+lineOf p item = itemLine (p .number) (p .manager) (p .next) item
 
--- the manager after what stands at a place; as it was, where no event stands there
-unfoldable pub managerAt : Manager → List ℕ → ℕ → Manager
-managerAt m s at = itemManager m (itemAt (rowAt s at))
+-- the point after it, where the next place is known
+abbrev pub pointPast : Point → Item → ℕ → Point
+pointPast p item next = moved p (itemManager (p .manager) item) next (p .length + length (lineOf p item))
+
+-- what its line leaves, where the block was `before` and is `after`
+abbrev pub TellsItem : Point → Item → ℕ → Point → List ℕ → List ℕ → Type 0
+TellsItem p item next r before after = Tells (pointPast p item next) (lineOf p item) (p .length) r before after
 
 -- the place after the event; the input's length where no event stands there, so that no line follows
 unfoldable pub nextAt : List ℕ → ℕ → ℕ
 nextAt s at = itemNext (length s) (nextOf (front at (drop at s)) at) (itemAt (rowAt s at))
 
--- what the line at a place leaves, where the lent line was `before` and is `after`
-abbrev pub TellsAt : ℕ → Manager → List ℕ → ℕ → Told → List ℕ → List ℕ → Type 0
-TellsAt number m s at r before after = Tells (managerAt m s at) (nextAt s at) (lineAt number m s at) r before after
+-- the next line of an input, from a point on
+unfoldable pub lineAt : List ℕ → Point → List ℕ
+lineAt s p = lineOf p (itemAt (rowAt s (p .next)))
+
+-- the point after it
+unfoldable pub pointAfter : List ℕ → Point → Point
+pointAfter s p = pointPast p (itemAt (rowAt s (p .next))) (nextAt s (p .next))
+
+-- what the next line leaves, where the block was `before` and is `after`
+abbrev pub TellsAt : List ℕ → Point → Point → List ℕ → List ℕ → Type 0
+TellsAt s p r before after = Tells (pointAfter s p) (lineAt s p) (p .length) r before after
 
 -- ---- the first line
 
@@ -82,9 +104,13 @@ firstManager s = outcome (readingOf s .manager) start .manager
 unfoldable pub firstNext : List ℕ → ℕ
 firstNext s = byReading (readingOf s) (eventsFrom s 0) (length s)
 
--- what the first line leaves, where the lent line was `before` and is `after`
-abbrev pub TellsFirst : List ℕ → Told → List ℕ → List ℕ → Type 0
-TellsFirst s r before after = Tells (firstManager s) (firstNext s) (firstLine s) r before after
+-- the point after it: the lines of events are numbered from 1
+unfoldable pub firstPoint : List ℕ → Point
+firstPoint s = record { manager = firstManager s; next = firstNext s; number = 1; length = length (firstLine s) }
+
+-- what the first line leaves, where the block was `before` and is `after`
+abbrev pub TellsFirst : List ℕ → Point → List ℕ → List ℕ → Type 0
+TellsFirst s r before after = Tells (firstPoint s) (firstLine s) 0 r before after
 
 -- ---- the whole output
 
@@ -131,8 +157,30 @@ linesAfter s = byReading (readingOf s) (eventLines 1 (firstManager s) (rowAt s (
 unfoldable pub traceOf : List ℕ → List (List ℕ)
 traceOf s = cond (ltb 65536 (length s)) (tooLong ∷ []) (firstLine s ∷ linesAfter s)
 
--- ---- the loop of the program: while the place is within the input, one more line
-pub data Prints (s : List ℕ) : ℕ → Manager → ℕ → List (List ℕ) → Type 0 where
-  over : (number : ℕ) (m : Manager) (at : ℕ) → length s ≤ at → Prints s number m at []
-  more : (number : ℕ) (m : Manager) (at : ℕ) (lines : List (List ℕ)) → at < length s → Prints s (number + 1) (managerAt m s at) (nextAt s at) lines
-      → Prints s number m at (lineAt (number + 1) m s at ∷ lines)
+-- the bytes of the lines, one after the other
+unfoldable pub outputOf : List ℕ → List ℕ
+outputOf s = flatten (traceOf s)
+
+-- ---- block by block
+
+-- the lines that are still to come, from a point on
+unfoldable pub left : List ℕ → Point → List (List ℕ)
+left s p = eventLines (p .number) (p .manager) (rowAt s (p .next))
+
+-- the lines from a point on, into a block with so much room: one more while the input has more and there is room for the longest line
+pub data Fills (s : List ℕ) (room : ℕ) : Point → List (List ℕ) → Point → Type 0 where
+  over : (p : Point) → length s ≤ p .next → Fills s room p [] p
+  full : (p : Point) → p .next < length s → room < p .length + 601 → Fills s room p [] p
+  more : (p : Point) (lines : List (List ℕ)) (q : Point) → p .next < length s → p .length + 601 ≤ room
+      → Fills s room (pointAfter s p) lines q → Fills s room p (lineAt s p ∷ lines) q
+
+-- a block that was filled from a point on: whole lines, their bytes after those that it held, later bytes as they were, and all within it
+pub record Filled (s : List ℕ) (p r : Point) (before after : List ℕ) : Type 0 where
+  pub lines : List (List ℕ)
+  pub fills : Fills s (length before) p lines r
+  pub stored : Stored before (p .length) (flatten lines) (r .length) after
+  pub within : r .length ≤ length before
+
+-- bytes that come next in the output of an input, after so many of it
+abbrev pub Next : List ℕ → ℕ → List ℕ → Type 0
+Next s written part = take (length part) (drop written (outputOf s)) ≡ part

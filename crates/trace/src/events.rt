@@ -2,6 +2,7 @@
 use crate::Event;
 use crate::FoundItem;
 use crate::Item;
+use crate::Trace;
 use fields::Field;
 use manager::Manager;
 use manager::Outcome;
@@ -9,7 +10,7 @@ ghost use mathlib.Core.Path.{_≡_};
 ghost use Prim.Native.Nat.{_+_, _≤_};
 ghost use lib.ListN.{length, getD, take, drop};
 ghost use Rattle.fields.specs.Fields.{ReadAt};
-ghost use Rattle.trace.specs.Events.{sized, eventOf, itemOf, itemAt, lent, callOf};
+ghost use Rattle.trace.specs.Events.{sized, eventOf, itemOf, itemAt, callOf};
 ghost use Rattle.slots.specs.Calls.{Gives};
 
 // An event whose field has the length that its tag asks for.
@@ -29,7 +30,7 @@ fn event_of(tag: u8, length: u16, first: u8, second: u8, third: u8) -> Item
     if tag == Event::REQUEST {
         return sized(
             length,
-            Event::TWO,
+            Event::REQUEST_LENGTH,
             Event::Request {
                 handle: first,
                 mode: second,
@@ -37,12 +38,16 @@ fn event_of(tag: u8, length: u16, first: u8, second: u8, third: u8) -> Item
         );
     }
     if tag == Event::BUS_OFF {
-        return sized(length, Event::ONE, Event::BusOff { controller: first });
+        return sized(
+            length,
+            Event::BUS_OFF_LENGTH,
+            Event::BusOff { controller: first },
+        );
     }
     if tag == Event::ANSWER {
         return sized(
             length,
-            Event::THREE,
+            Event::ANSWER_LENGTH,
             Event::Answer {
                 controller: first,
                 mode: second,
@@ -53,7 +58,7 @@ fn event_of(tag: u8, length: u16, first: u8, second: u8, third: u8) -> Item
     if tag == Event::TRANSCEIVER_MODE {
         return sized(
             length,
-            Event::TWO,
+            Event::TRANSCEIVER_MODE_LENGTH,
             Event::TransceiverMode {
                 transceiver: first,
                 mode: second,
@@ -61,16 +66,24 @@ fn event_of(tag: u8, length: u16, first: u8, second: u8, third: u8) -> Item
         );
     }
     if tag == Event::CLEAR_DONE {
-        return sized(length, Event::ONE, Event::ClearDone { transceiver: first });
+        return sized(
+            length,
+            Event::CLEAR_DONE_LENGTH,
+            Event::ClearDone { transceiver: first },
+        );
     }
     if tag == Event::CHECK_DONE {
-        return sized(length, Event::ONE, Event::CheckDone { transceiver: first });
+        return sized(
+            length,
+            Event::CHECK_DONE_LENGTH,
+            Event::CheckDone { transceiver: first },
+        );
     }
     if tag == Event::TICK {
-        return sized(length, Event::EMPTY, Event::Tick);
+        return sized(length, Event::TICK_LENGTH, Event::Tick);
     }
     if tag == Event::POLL {
-        return sized(length, Event::ONE, Event::Poll { handle: first });
+        return sized(length, Event::POLL_LENGTH, Event::Poll { handle: first });
     }
     Item::Bad
 }
@@ -122,9 +135,8 @@ pub fn event_at(bytes: &[u8], at: usize) -> FoundItem
 }
 
 // The call of the manager that an event is, with its lent buffer.
-pub fn run_event(manager: Manager, event: Event, buffer: &mut [u8]) -> Outcome
-    requires { ⌜ now buffer ≡ lent ⌝ }
-    ensures { λ r. ⌜ Gives manager (callOf event) lent r (now (buffer .exit)) ⌝ }
+pub fn run_event(manager: Manager, event: Event, buffer: &mut [u8; Trace::LENT]) -> Outcome
+    ensures { λ r. ⌜ Gives manager (callOf event) (now (buffer .entry)) r (now (buffer .exit)) ⌝ }
 {
     match event {
         Event::Request { handle, mode } => manager::request(manager, handle, mode),

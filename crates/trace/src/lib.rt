@@ -6,11 +6,12 @@ mod splitting;
 
 pub use events::event_at;
 pub use events::run_event;
-pub use lines::event_line;
-pub use lines::first_line;
 use manager::Manager;
 pub use running::run;
 pub use splitting::events_from;
+ghost use mathlib.Core.Path.{_≡_};
+ghost use Prim.Native.Nat.{_^_, _<_};
+ghost use Rattle.trace.specs.Trace.{moved, emptied};
 
 // A call of the manager, as a recording names it.
 pub enum Event {
@@ -42,13 +43,21 @@ impl Event {
 
     pub const POLL: u8 = 0x17;
     // The lengths of their values.
-    pub const EMPTY: u16 = 0;
+    pub const REQUEST_LENGTH: u16 = 2;
 
-    pub const ONE: u16 = 1;
+    pub const BUS_OFF_LENGTH: u16 = 1;
 
-    pub const TWO: u16 = 2;
+    pub const ANSWER_LENGTH: u16 = 3;
 
-    pub const THREE: u16 = 3;
+    pub const TRANSCEIVER_MODE_LENGTH: u16 = 2;
+
+    pub const CLEAR_DONE_LENGTH: u16 = 1;
+
+    pub const CHECK_DONE_LENGTH: u16 = 1;
+
+    pub const TICK_LENGTH: u16 = 0;
+
+    pub const POLL_LENGTH: u16 = 1;
 }
 
 // What stands at a place of the events.
@@ -65,11 +74,43 @@ pub struct FoundItem {
     pub next: usize,
 }
 
-// What a line leaves: the manager after it, the place of the next line's event, and how many bytes the line has.
-pub struct Told {
-    pub manager: Manager,
-    pub next: usize,
-    pub length: usize,
+// Where a run stands: the manager, the place of the next event, the number of its line, and how many bytes of the block are filled.
+pub(crate) struct Point {
+    pub(crate) manager: Manager,
+    pub(crate) next: usize,
+    pub(crate) number: u64,
+    pub(crate) length: usize,
+}
+
+impl Point {
+    // The number of the first event's line.
+    pub(crate) const FIRST: u64 = 1;
+
+    // The point after a line: the next line has the next number.
+    pub(crate) fn moved(self, manager: Manager, next: usize, length: usize) -> Point
+        requires { ⌜ self .number < 2 ^ 63 ⌝ }
+        ensures { λ r. ⌜ r ≡ moved self manager next length ⌝ }
+    {
+        Point {
+            manager,
+            next,
+            number: self.number + 1,
+            length,
+        }
+    }
+
+    // The same point with an empty block.
+    pub(crate) fn emptied(self) -> Point
+        ensures { λ r. ⌜ r ≡ emptied self ⌝ }
+    {
+        let manager = self.manager;
+        Point {
+            manager,
+            next: self.next,
+            number: self.number,
+            length: 0,
+        }
+    }
 }
 
 pub struct Trace {}
@@ -78,9 +119,7 @@ impl Trace {
     // The most bytes of an input.
     pub const MOST_BYTES: usize = 65536;
     // The lent buffer of a call.
-    pub const LENT: usize = 144;
+    pub const LENT: usize = Manager::TICK_NEEDS;
     // Room for the longest line: a number of 20 digits, an answer of 3, 48 records of 12 bytes, a blank and the newline.
     pub const LINE: usize = 601;
-    // The number that says accepted.
-    pub const ACCEPTED: u8 = 0;
 }

@@ -1,29 +1,29 @@
-// The lines of the program, each written into a lent line from its front.
+// The lines of the program, each put into a lent block after what it holds.
 use crate::Event;
 use crate::Item;
-use crate::Told;
+use crate::Point;
 use crate::Trace;
 use crate::events::event_at;
 use crate::events::run_event;
 use crate::splitting::events_from;
-use manager::Manager;
+use manager::Answer;
 use text::Text;
 ghost use mathlib.Core.Path.{_≡_};
-ghost use Prim.Native.Nat.{_+_, _*_, _≤_};
+ghost use Prim.Native.Nat.{_+_, _^_, _≤_, _<_};
 ghost use mathlib.Core.List.{_∷_, _++_};
 ghost use lib.ListN.{length};
 ghost use Rattle.lists.specs.Stores.{Stored};
 ghost use Rattle.records.specs.Records.{recordsAt};
 ghost use Rattle.text.specs.Text.{blank, decimal};
-ghost use Rattle.slots.specs.Calls.{outcome};
+ghost use Rattle.trace.specs.declared.Item.{Item};
 ghost use Rattle.trace.specs.Events.{callOf};
-ghost use Rattle.trace.specs.Lines.{configLine, stopLine, eventLine, polls, saidOf};
-ghost use Rattle.trace.specs.Trace.{Tells, TellsAt, TellsFirst};
+ghost use Rattle.trace.specs.Lines.{configLine, stopLine, polls, saidOf};
+ghost use Rattle.trace.specs.Trace.{TellsItem, TellsAt, TellsFirst};
 
 // `config`, the answer and what is shown beside it.
 fn put_config(line: &mut [u8], answer: u8, shown: usize) -> usize
     requires { ⌜ 601 ≤ length (now line) ⌝ }
-    ensures { λ r. ⌜ Stored (now (line .entry)) 0 (configLine answer shown) r (now (line .exit)) ⌝ }
+    ensures { λ r. ⌜ Stored (now (line .entry)) 0 (configLine answer shown) r (now (line .exit)) × (r ≤ 601) ⌝ }
 {
     let to = text::put_text(line, 0, b"config ");
     let to = text::put_small(line, to, answer);
@@ -33,11 +33,11 @@ fn put_config(line: &mut [u8], answer: u8, shown: usize) -> usize
 }
 
 // `stop` and a place.
-fn put_stop(line: &mut [u8], at: usize) -> usize
-    requires { ⌜ 601 ≤ length (now line) ⌝ }
-    ensures { λ r. ⌜ Stored (now (line .entry)) 0 (stopLine at) r (now (line .exit)) ⌝ }
+fn put_stop(line: &mut [u8], to: usize, at: usize) -> usize
+    requires { ⌜ to + 601 ≤ length (now line) ⌝ }
+    ensures { λ r. ⌜ Stored (now (line .entry)) to (stopLine at) r (now (line .exit)) × (r ≤ to + 601) ⌝ }
 {
-    let to = text::put_text(line, 0, b"stop ");
+    let to = text::put_text(line, to, b"stop ");
     let to = text::put_decimal(line, to, at as u64);
     text::put_byte(line, to, Text::NEWLINE)
 }
@@ -65,11 +65,11 @@ fn is_poll(event: Event) -> bool
 }
 
 // The number of a line and the answer of its event.
-fn put_answer(line: &mut [u8], number: u64, answer: u8) -> usize
-    requires { ⌜ 601 ≤ length (now line) ⌝ }
-    ensures { λ r. ⌜ Stored (now (line .entry)) 0 (decimal number ++ (blank ∷ decimal answer)) r (now (line .exit)) × (r ≤ 24) ⌝ }
+fn put_answer(line: &mut [u8], to: usize, number: u64, answer: u8) -> usize
+    requires { ⌜ to + 601 ≤ length (now line) ⌝ }
+    ensures { λ r. ⌜ Stored (now (line .entry)) to (decimal number ++ (blank ∷ decimal answer)) r (now (line .exit)) × (r ≤ to + 24) ⌝ }
 {
-    let to = text::put_decimal(line, 0, number);
+    let to = text::put_decimal(line, to, number);
     let to = text::put_byte(line, to, Text::BLANK);
     text::put_small(line, to, answer)
 }
@@ -80,10 +80,9 @@ fn put_said(
     at: usize,
     polled: bool,
     mode: u8,
-    buffer: &[u8],
+    buffer: &[u8; Trace::LENT],
     count: usize,
 ) -> usize
-    requires { ⌜ 3 * count ≤ length (now buffer) ⌝ }
     requires { ⌜ count ≤ 48 ⌝ }
     requires { ⌜ at + 577 ≤ length (now line) ⌝ }
     ensures { λ r. ⌜ Stored (now (line .entry)) at (saidOf polled mode (recordsAt count (now (buffer .entry)))) r (now (line .exit))
@@ -96,86 +95,74 @@ fn put_said(
     text::put_records(line, at, buffer, count)
 }
 
-// Runs an event and writes its line.
-fn tell(manager: Manager, event: Event, next: usize, number: u64, line: &mut [u8]) -> Told
-    requires { ⌜ 601 ≤ length (now line) ⌝ }
-    ensures { λ r. ⌜ Tells (outcome manager (callOf event) .manager) next (eventLine number manager event) r
-        (now (line .entry)) (now (line .exit)) ⌝ }
+// Runs an event, whose place the point has, and puts its line into the block; the next event's place is given.
+fn tell(point: Point, event: Event, next: usize, block: &mut [u8]) -> Point
+    requires { ⌜ point .number < 2 ^ 63 ⌝ }
+    requires { ⌜ point .length + 601 ≤ length (now block) ⌝ }
+    ensures { λ r. ⌜ TellsItem point (Item.Known event) next r (now (block .entry)) (now (block .exit)) ⌝ }
 {
     let mut buffer = [0u8; Trace::LENT];
-    let outcome = run_event(manager, event, &mut buffer);
+    let outcome = run_event(point.manager, event, &mut buffer);
     let answer = outcome.answer;
-    let to = put_answer(line, number, answer.number());
+    let to = put_answer(block, point.length, point.number, answer.number());
     let to = put_said(
-        line,
+        block,
         to,
         is_poll(event),
         outcome.mode,
         &buffer,
         outcome.count,
     );
-    let length = text::put_byte(line, to, Text::NEWLINE);
-    let after = outcome.manager;
-    Told {
-        manager: after,
-        next,
-        length,
-    }
+    let length = text::put_byte(block, to, Text::NEWLINE);
+    let manager = outcome.manager;
+    point.moved(manager, next, length)
 }
 
-// The line of what stands at a place of the input, with its number.
-pub fn event_line(
-    manager: Manager,
-    input: &[u8],
-    at: usize,
-    number: u64,
-    line: &mut [u8; Trace::LINE],
-) -> Told
-    ensures { λ r. ⌜ TellsAt number manager (now (input .entry)) at r (now (line .entry)) (now (line .exit)) ⌝ }
+// Puts the line of what stands at the point's place of the input into the block.
+pub(crate) fn event_line(input: &[u8], point: Point, block: &mut [u8]) -> Point
+    requires { ⌜ point .number < 2 ^ 63 ⌝ }
+    requires { ⌜ point .length + 601 ≤ length (now block) ⌝ }
+    ensures { λ r. ⌜ TellsAt (now (input .entry)) point r (now (block .entry)) (now (block .exit)) ⌝ }
 {
-    let found = event_at(input, at);
+    let found = event_at(input, point.next);
     let item = found.item;
+    let manager = point.manager;
     match item {
-        Item::End => Told {
-            manager,
-            next: input.len(),
-            length: 0,
-        },
+        Item::End => point.moved(manager, input.len(), point.length),
         Item::Bad => {
-            let length = put_stop(line, at);
-            Told {
-                manager,
-                next: input.len(),
-                length,
-            }
+            let length = put_stop(block, point.length, point.next);
+            point.moved(manager, input.len(), length)
         }
-        Item::Known(event) => tell(manager, event, found.next, number, line),
+        Item::Known(event) => tell(point, event, found.next, block),
     }
 }
 
-// The first line: the sheet is read, and the manager started.
-pub fn first_line(input: &[u8], line: &mut [u8; Trace::LINE]) -> Told
-    ensures { λ r. ⌜ TellsFirst (now (input .entry)) r (now (line .entry)) (now (line .exit)) ⌝ }
+// The first line, at the front of the block: the sheet is read, and the manager started.
+pub(crate) fn first_line(input: &[u8], block: &mut [u8]) -> Point
+    requires { ⌜ 601 ≤ length (now block) ⌝ }
+    ensures { λ r. ⌜ TellsFirst (now (input .entry)) r (now (block .entry)) (now (block .exit)) ⌝ }
 {
     let at = events_from(input, 0);
     let reading = manager::read(manager::new(), &input[..at]);
     let answer = reading.answer;
-    let number = answer.number();
+    let refusal = answer.number();
     let loaded = reading.manager;
     let start = manager::start(loaded);
-    let started = start.manager;
-    if number == Trace::ACCEPTED {
-        let length = put_config(line, number, reading.count);
-        return Told {
-            manager: started,
+    let manager = start.manager;
+    if refusal == Answer::ACCEPTED {
+        let length = put_config(block, refusal, reading.count);
+        return Point {
+            manager,
             next: at,
+            number: Point::FIRST,
             length,
         };
     }
-    let length = put_config(line, number, reading.place);
-    Told {
-        manager: started,
+    let length = put_config(block, refusal, reading.place);
+    Point {
+        manager,
         next: input.len(),
+        number: Point::FIRST,
         length,
     }
 }

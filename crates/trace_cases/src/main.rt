@@ -1,9 +1,10 @@
 // Runs stored inputs, one after the other, and writes the lines that `cantrace` writes for each.
 // Input: for each case four bytes length, high byte first, and the input.
 use libc::STDIN_FILENO;
+use trace::Trace;
 
 // One byte more than the longest input.
-const ROOM: usize = 65537;
+const ROOM: usize = Trace::MOST_BYTES + 1;
 // The bytes of a length.
 const HEAD: usize = 4;
 // The numbers that two bytes can be.

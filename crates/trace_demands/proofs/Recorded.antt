@@ -1,7 +1,7 @@
 -- The lines of `cantrace` are those of a history since the start, and the demands hold of it.
 use Rattle.lists.proofs.Basics.{ℕ, suc, _+_, _<_, arith, _≡_, refl, sym, ap, subst, _∙_, List, [], _∷_, _++_, append-nil, append-assoc, true, false}
 use Rattle.lists.proofs.Basics.{false≢true, eqb, ltb, length, take}
-use Rattle.lists.specs.Lists.{Bytes}
+use Rattle.lists.specs.Lists.{Bytes, any}
 use Rattle.lists.proofs.Parts.{take-bytes}
 use Rattle.fields.specs.Fields.{rowAt}
 use Rattle.entries.specs.declared.Fault.{Fault}
@@ -10,18 +10,20 @@ use Rattle.sheet.specs.declared.Reading.{Reading}
 use Rattle.sheet.specs.Reading.{decode}
 use Rattle.slots.specs.declared.Manager.{Manager}
 use Rattle.slots.specs.declared.Answer.{Answer}
-use Rattle.slots.specs.declared.Outcome.{Outcome}
 use Rattle.slots.specs.Manager.{answerNumber, networksOf, networkAt}
 use Rattle.slots.specs.Calls.{read, start, newManager, afterReading, readInto, outcome}
 use Rattle.calls.specs.Histories.{entryOf, History, Since, begun, goes, at-new, after}
+use Rattle.manager_theorems.proofs.Counts.{tick-needs-paper, tick-needs-most}
 use Rattle.trace.specs.declared.Event.{Event}
 use Rattle.trace.specs.Events.{callOf}
 use Rattle.trace.specs.Lines.{entryLine, eventLine}
 use Rattle.trace.specs.Splitting.{eventsFrom}
 use Rattle.trace.specs.Trace.{readingOf, firstLine, firstManager, ending, runLines, eventLines, linesAfter, traceOf}
 use Rattle.demands.specs.Demands.{Begun, Demand3}
+use Rattle.demands.proofs.Follow.{follow}
 use Rattle.demands.proofs.DemandThree.{demand-3}
-use Rattle.trace_demands.specs.Recorded.{historyLines, historyAfter, managerAfter, eventsOf, Recorded}
+use Rattle.trace_demands.specs.Recorded.{historyLines, historyAfter, managerAfter, eventsOf, Recorded, HasRoom}
+use Rattle.trace_demands.proofs.Room.{events-not-short, events-then-tick}
 
 -- the lines of events that follow a history are its next lines
 pub lines-after : (m : Manager) (h : History) (es : List Event) → historyLines (historyAfter m h es) ≡ historyLines h ++ runLines (length h + 1) m es
@@ -91,3 +93,15 @@ module _ (s : List ℕ) (bytes : Bytes s) (taken : eqb (answerNumber (readingOf 
   -- demand 3 holds of every network of it, over that history and every other since the start
   pub recorded-demand-3 : (i : ℕ) → i < length (networksOf (firstManager s)) → Demand3 (firstManager s) (networkAt (firstManager s) i)
   recorded-demand-3 i h = demand-3 (firstManager s) first-begun i h
+
+  -- what its calls are lent is room for any of them
+  pub recorded-has-room : HasRoom s
+  unfolding any
+  recorded-has-room = record {
+    needs =
+        let sound = follow (firstManager s) (firstManager s) [] first-begun begun .sound in
+        omega (arith, tick-needs-paper (firstManager s) sound, tick-needs-most (firstManager s) sound);
+    not-short = λ es. events-not-short (firstManager s) first-begun (firstManager s) [] es begun refl;
+    ticks = λ es. events-then-tick (firstManager s) first-begun (managerAfter (firstManager s) es) _
+        (events-since (firstManager s) (firstManager s) [] es begun);
+  }

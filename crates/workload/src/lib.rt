@@ -1,19 +1,12 @@
 // Work for the manager, to be measured: the same as speed/work.c does on the same rules in C. A box around the manager plays its neighbours.
 // Each function starts a manager with a sheet, has it work for some rounds, and returns a sum of what it handed out.
 use manager::Manager;
-use network::Report;
+use network::LastAnswer;
+use records::ControllerMode;
 use records::EventStatus;
 use records::Mode;
 use records::Record;
 
-// The lent buffer of a tick: the records of eight networks with four controllers each.
-const ROOM: usize = 144;
-// The bytes of a record, and of the records of a bus-off.
-const RECORD: usize = 3;
-
-const BUS_OFF_ROOM: usize = 9;
-// The most records that a tick hands out.
-const MOST_RECORDS: usize = 48;
 // How the box answers: everything, and the networks come to rest in full communication; no request to a controller, so that requests go
 // out again on every tick; or everything, and each all-clear is followed by a bus-off or by a shutdown, in turn.
 const DEAF: u8 = 1;
@@ -21,19 +14,36 @@ const DEAF: u8 = 1;
 const RESTLESS: u8 = 2;
 // Rounds that bring every network to where it stays, in a box that answers everything or no request to a controller.
 const SETTLING: u64 = 100;
+// A sum is this much more with each number, and stays below the second.
+const FACTOR: u64 = 33;
+
+const SUMS: u64 = 4294967296;
+// The numbers that a byte can be.
+const BYTES: usize = 256;
 
 // One number more of what was handed out.
 fn mix(sum: u32, number: u8) -> u32 {
-    ((sum as u64 * 33 + number as u64) % 4294967296) as u32
+    ((sum as u64 * FACTOR + number as u64) % SUMS) as u32
 }
 
 fn mix_record(sum: u32, kind: u8, target: u8, argument: u8) -> u32 {
     mix(mix(mix(sum, kind), target), argument)
 }
 
+// The records of a bus-off, byte by byte.
+fn mix_recovery(sum: u32, records: &[u8; Manager::BUS_OFF_NEEDS]) -> u32 {
+    let mut mixed = sum;
+    let mut at: usize = 0;
+    while at < Manager::BUS_OFF_NEEDS {
+        mixed = mix(mixed, records[at]);
+        at += 1;
+    }
+    mixed
+}
+
 // A byte of the lent buffer; past its end 0.
-fn byte_at(out: &[u8; ROOM], at: usize) -> u8 {
-    if at < ROOM {
+fn byte_at(out: &[u8; Manager::TICK_NEEDS], at: usize) -> u8 {
+    if at < Manager::TICK_NEEDS {
         return out[at];
     }
     0
@@ -54,22 +64,20 @@ struct Played {
 
 // A bus-off of a network's first controller, whose id is the network's handle in the sheets of this work.
 fn strike(manager: Manager, handle: u8, sum: u32) -> Played {
-    let mut records = [0; BUS_OFF_ROOM];
+    let mut records = [0; Manager::BUS_OFF_NEEDS];
     let outcome = manager::bus_off(manager, handle, &mut records);
     let next = outcome.manager;
     if outcome.count == 0 {
         return Played { manager: next, sum };
     }
-    let first = mix_record(sum, records[0], records[1], records[2]);
-    let second = mix_record(first, records[3], records[4], records[5]);
     Played {
         manager: next,
-        sum: mix_record(second, records[6], records[7], records[8]),
+        sum: mix_recovery(sum, &records),
     }
 }
 
 // Rounds of a tick and of what the box does with each record handed out.
-fn play(manager: Manager, style: u8, rounds: u64, out: &mut [u8; ROOM]) -> Played {
+fn play(manager: Manager, style: u8, rounds: u64, out: &mut [u8; Manager::TICK_NEEDS]) -> Played {
     let mut current = manager;
     let mut sum: u32 = 0;
     let mut shutdown = false;
@@ -79,13 +87,13 @@ fn play(manager: Manager, style: u8, rounds: u64, out: &mut [u8; ROOM]) -> Playe
         let count = ticked.count;
         current = ticked.manager;
         let mut k: usize = 0;
-        while k < MOST_RECORDS {
+        while k < Manager::TICK_RECORDS {
             if count <= k {
                 break;
             }
-            let kind = byte_at(out, RECORD * k);
-            let target = byte_at(out, RECORD * k + 1);
-            let argument = byte_at(out, RECORD * k + 2);
+            let kind = byte_at(out, Record::SIZE * k);
+            let target = byte_at(out, Record::SIZE * k + 1);
+            let argument = byte_at(out, Record::SIZE * k + 2);
             sum = mix_record(sum, kind, target, argument);
             if kind == Record::CONTROLLER_MODE {
                 if style != DEAF {
@@ -93,7 +101,7 @@ fn play(manager: Manager, style: u8, rounds: u64, out: &mut [u8; ROOM]) -> Playe
                         current,
                         target,
                         argument,
-                        Report::OK,
+                        LastAnswer::OKAY,
                     );
                     current = answered.manager;
                 }
@@ -134,14 +142,14 @@ fn play(manager: Manager, style: u8, rounds: u64, out: &mut [u8; ROOM]) -> Playe
 }
 
 // Rounds of a tick alone.
-fn tick_alone(manager: Manager, rounds: u64, out: &mut [u8; ROOM]) -> u32 {
+fn tick_alone(manager: Manager, rounds: u64, out: &mut [u8; Manager::TICK_NEEDS]) -> u32 {
     let mut current = manager;
     let mut sum: u32 = 0;
     let mut round: u64 = 0;
     while round < rounds {
         let ticked = manager::tick(current, out);
         current = ticked.manager;
-        sum = mix(sum, (ticked.count % 256) as u8);
+        sum = mix(sum, (ticked.count % BYTES) as u8);
         round += 1;
     }
     sum
@@ -152,17 +160,17 @@ fn answer_alone(manager: Manager, controllers: u8, rounds: u64) -> u32 {
     let mut current = manager;
     let mut sum: u32 = 0;
     let mut id: u8 = 0;
-    let mut ok: u8 = 1;
+    let mut ok: u8 = LastAnswer::OKAY;
     let mut round: u64 = 0;
     while round < rounds {
-        let answered = manager::controller_answer(current, id, 0, ok);
+        let answered = manager::controller_answer(current, id, ControllerMode::STOPPED, ok);
         let answer = answered.answer;
         current = answered.manager;
         sum = mix(sum, answer.number());
         id += 1;
         if controllers <= id {
             id = 0;
-            ok = 1 - ok;
+            ok = LastAnswer::OKAY - ok;
         }
         round += 1;
     }
@@ -171,14 +179,24 @@ fn answer_alone(manager: Manager, controllers: u8, rounds: u64) -> u32 {
 
 // Rounds of a box of this style.
 #[no_mangle]
-pub extern "C" fn proved_play(sheet: &[u8], style: u8, rounds: u64, out: &mut [u8; ROOM]) -> u32 {
+pub extern "C" fn proved_play(
+    sheet: &[u8],
+    style: u8,
+    rounds: u64,
+    out: &mut [u8; Manager::TICK_NEEDS],
+) -> u32 {
     let played = play(begin(sheet), style, rounds, out);
     played.sum
 }
 
 // Ticks of networks that have come to where they stay in a box of this style.
 #[no_mangle]
-pub extern "C" fn proved_ticks(sheet: &[u8], style: u8, rounds: u64, out: &mut [u8; ROOM]) -> u32 {
+pub extern "C" fn proved_ticks(
+    sheet: &[u8],
+    style: u8,
+    rounds: u64,
+    out: &mut [u8; Manager::TICK_NEEDS],
+) -> u32 {
     let settled = play(begin(sheet), style, SETTLING, out);
     tick_alone(settled.manager, rounds, out)
 }
@@ -189,7 +207,7 @@ pub extern "C" fn proved_answers(
     sheet: &[u8],
     controllers: u8,
     rounds: u64,
-    out: &mut [u8; ROOM],
+    out: &mut [u8; Manager::TICK_NEEDS],
 ) -> u32 {
     let settled = play(begin(sheet), DEAF, SETTLING, out);
     answer_alone(settled.manager, controllers, rounds)

@@ -5,11 +5,11 @@ use Rattle.decisions.proofs.main.Statement.{statement}
 use Rattle.decisions.proofs.main.Tie as tie
 
 abbrev Inv-loop : tie.InvT-loop
-Inv-loop number₀ number = 0 ≤ number
+Inv-loop step₀ written₀ step written = 0 ≤ written
 
 abbrev μ-loop : tie.MeasureT-loop
-μ-loop number₀ number = 255 - number
+μ-loop step₀ written₀ step written = 15 - written
 
 pub main-spec : {M : Type 1} → statement M
 main-spec = tie.close (tie.spec Inv-loop μ-loop (λ c. search needs) (λ c κs. search needs) (λ c. search needs) (λ c κs. search needs)
-    (λ c. search needs) (λ c. search needs) (λ c. search needs) (λ c. tt))
+    (λ c κs. search needs) (λ c. search needs) (λ c. search needs) (λ c. search needs) (λ c. tt))

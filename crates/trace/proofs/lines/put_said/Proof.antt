@@ -18,7 +18,8 @@ unfolding saidOf
 returns-2 c =
     let b = c .before .before in
     let records = b .put-records .ensures in
-    (rw (b .before .before .if1 .left) (records .0), omega (arith, records .1, b .before .before .before .before .before .pre))
+    let s = b .before .before .before in
+    (rw (s .if1 .left) (records .0), omega (arith, records .1, s .before .before .pre))
 
 pub put-said-spec : {M : Type 1} → statement M
 put-said-spec = tie.close (tie.spec (λ c κs. search needs) (λ c κs. search needs) (λ c. search needs) returns (λ c κs. search needs)

@@ -1,32 +1,30 @@
 -- `trace::lines::tell` meets its contract.
-use Rattle.lists.proofs.Basics.{arith, needs, refl, ap}
+use Rattle.lists.proofs.Basics.{arith, needs, ap}
 use Rattle.lists.proofs.Stores.{stored-length}
 use Rattle.slots.specs.declared.Outcome.{Outcome}
-use Rattle.trace.proofs.Telling.{event-fits, event-stored}
+use Rattle.trace.specs.declared.Item.{Item}
+use Rattle.trace.proofs.Telling.{event-fits, event-stored, tells-item}
 use Rattle.trace.proofs.lines.tell.Statement.{statement}
 use Rattle.trace.proofs.lines.tell.Tie as tie
 
 put-said-requires : tie.Need-put-said-requires
 put-said-requires c κs =
-    let b = c .before .before .before .before .before .before .before .before .before in let a = b .before .before .before .args in
-    let ran = b .run-event in
-    let fits = event-fits (a .manager) (a .event) (ran .result) _ (ran .ensures) in
-    let answer = c .before .before .before .before .before .put-answer .ensures in
-    (fits .0, (fits .1, omega (arith, answer .1, stored-length (answer .0), b .before .before .before .pre)))
+    let answered = c .before .before .before .before .before in let ran = answered .before .before .before in let s = ran .before .before .before in
+    let fits = event-fits (s .args .point .manager) (s .args .event) (ran .run-event .result) (ran .run-event .ensures) in
+    let answer = answered .put-answer .ensures in
+    (fits, omega (arith, answer .1, stored-length (answer .0), s .pre .1))
 
 returns : tie.Need-returns
 returns c =
-    let said = c .before .before .before .before .before .before .before in let polled = said .before .before in
-    let answered = polled .before .before .before .before in let number = answered .before in let ran = number .before .before .before in
-    let a = ran .before .before .before .args in
-    record {
-      manager-after = ap (λ (o : Outcome). o .manager) (ran .run-event .ensures .result);
-      next-place = refl;
-      line = event-stored (a .number) (a .manager) (a .event) _ _ _ _ (ran .run-event .ensures)
-          (number .number .ensures) (polled .is-poll .ensures)
-          (answered .put-answer .ensures .0) (said .put-said .ensures .0) (c .before .before .before .put-byte .ensures);
-    }
+    let ended = c .before .before .before .before in let said = ended .before .before .before .before in let polled = said .before .before in
+    let answered = polled .before .before .before .before in let number = answered .before in let ran = number .before .before in
+    let a = ran .before .before .before .args in let event = ran .run-event .ensures in
+    let answer = answered .put-answer .ensures in let rest = said .put-said .ensures in let end = ended .put-byte .ensures in
+    tells-item (a .point) (Item.Known (a .event)) (a .next) (c .moved .ensures) (ap (λ (o : Outcome). o .manager) (event .result))
+    (event-stored (a .point .number) (a .point .manager) (a .event) _ _ _ _ event
+    (number .number .ensures) (polled .is-poll .ensures) (answer .0) (rest .0) end)
+    (omega (arith, answer .1, rest .1, end .place))
 
 pub tell-spec : {M : Type 1} → statement M
-tell-spec = tie.close (tie.spec (λ c. search needs) (λ c κs. search needs) (λ c κs. search needs) (λ c κs. search needs) (λ c κs. search needs)
-    (λ c. search needs) put-said-requires (λ c κs. search needs) (λ c. search needs) returns)
+tell-spec = tie.close (tie.spec (λ c κs. search needs) (λ c κs. search needs) (λ c κs. search needs) (λ c κs. search needs) put-said-requires
+    (λ c κs. search needs) (λ c κs. search needs) (λ c. search needs) returns)

@@ -1,38 +1,58 @@
--- `trace::running::run` is safe and ends: the next line's event stands further on, and there are no more lines than bytes.
-use Rattle.lists.proofs.Basics.{_-_, _≤_, arith, _≡_, sym, _∙_, length, needs}
+-- `trace::running::run` meets its contract: what stands in the block waits to be written, and after it come the lines that are left.
+use Rattle.lists.proofs.Basics.{_-_, arith, sym, ap, _∙_, length, take, needs}
 use denote.Ref.{now}
 use Rattle.lists.proofs.Stores.{stored-length}
-use Rattle.trace.proofs.Telling.{next-further}
+use Rattle.trace.specs.declared.Point.{Point}
+use Rattle.trace.proofs.Blocks.{Waits, long-output, first-waits, filled-next, filled-size, filled-fits, all-written, waits-on, waits-again}
 use Rattle.trace.proofs.running.run.Statement.{statement}
 use Rattle.trace.proofs.running.run.Tie as tie
 
 abbrev Inv-loop : tie.InvT-loop
-Inv-loop input line₀ manager₀ at₀ number₀ line manager at number = (number ≤ at) × (601 ≡ length line)
+Inv-loop input written₀ block₀ point₀ written block point = Waits input block point written
 
 abbrev μ-loop : tie.MeasureT-loop
-μ-loop input line₀ manager₀ at₀ number₀ line manager at number = length input - at
+μ-loop input written₀ block₀ point₀ written block point = length input - point .next
+
+put-next-requires : tie.Need-put-next-requires Inv-loop μ-loop
+put-next-requires c κs =
+    let tested = c .before .before in
+    (ap (take 9) (long-output (now (tested .before .before .args .input)) (tested .if1 .taken)), omega arith)
+
+returns : tie.Need-returns Inv-loop μ-loop
+returns c =
+    let tested = c .before .before .before in
+    c .put-next .ensures ∙ sym (ap length (long-output (now (tested .before .before .args .input)) (tested .if1 .taken)))
 
 loop-holds : tie.Need-loop-holds Inv-loop μ-loop
 loop-holds c =
-    let b = c .before .before .before in
-    (omega arith, b .before .before .blank-line .ensures ∙ sym (stored-length (b .first-line .ensures .line)))
+    let made = c .before .before .before in let tested = made .before in
+    first-waits (now (tested .before .before .args .input)) (tested .if1 .left) (made .large-buffer .ensures) (c .before .first-line .ensures)
+
+put-next-requires-2 : tie.Need-put-next-requires-2 Inv-loop μ-loop
+put-next-requires-2 c κs =
+    let head = c .before .before .before .before .before in let f = c .before .before .before .fill .ensures in
+    (filled-next (head .loop .inv) f, filled-fits (head .loop .inv) f (head .before .before .before .before .before .if1 .left))
+
+returns-2 : tie.Need-returns-2 Inv-loop μ-loop
+returns-2 c =
+    let filled = c .before .before .before .before .before .before in
+    all-written (filled .before .before .loop .inv) (filled .fill .ensures) (c .before .before .put-next2 .ensures) (c .if2 .taken)
 
 loop-less : tie.Need-loop-less Inv-loop μ-loop
 loop-less c =
-    let b = c .before .before .before .before .before in let s = b .before .before .before .before .before .before .before .before .before .before in
-    let told = c .before .before .before .event-line .ensures in
-    omega (arith, told .next-place, next-further (now (s .args .input)) (b .before .loop .at) (b .loop-test .taken))
+    let filled = c .before .before .before .before .before .before .before in let more = c .before .if2 .left in
+    let on = waits-on (filled .before .before .loop .inv) (filled .fill .ensures) more in
+    omega (arith, on, more, ap (λ (p : Point). p .next) (c .emptied .ensures))
 
 loop-again : tie.Need-loop-again Inv-loop μ-loop
 loop-again c =
-    let b = c .before .before .before .before .before in let s = b .before .before .before .before .before .before .before .before .before .before in
-    let told = c .before .before .before .event-line .ensures in
-    let further = next-further (now (s .args .input)) (b .before .loop .at) (b .loop-test .taken) in
-    (omega (arith, told .next-place, further), b .before .loop .inv .1 ∙ sym (stored-length (told .line)))
+    let put = c .before .before .before in let filled = put .before .before .before .before in
+    waits-again (filled .before .before .loop .inv) (filled .fill .ensures) (put .put-next2 .ensures) (c .emptied .ensures) (c .before .if2 .left)
 
 pub run-spec : {M : Type 1} → statement M
-run-spec = tie.close (tie.spec Inv-loop μ-loop (λ c. search needs) (λ c κs. search needs) (λ c. tt) (λ c κs. search needs) (λ c κs. search needs)
-    (λ c. c .before .before .before .blank-line .ensures ∙ sym (stored-length (c .before .first-line .ensures .line))) (λ c κs. search needs)
-    loop-holds (λ c. search needs) (λ c κs. search needs)
-    (λ c. c .before .before .before .before .loop .inv .1 ∙ sym (stored-length (c .before .event-line .ensures .line))) (λ c κs. search needs)
-    loop-less loop-again (λ c. tt))
+run-spec = tie.close (tie.spec Inv-loop μ-loop (λ c. search needs) put-next-requires returns (λ c κs. search needs) (λ c. search needs)
+    (λ c κs. omega (arith, c .before .large-buffer .ensures)) loop-holds (λ c. c .before .loop .inv .size)
+    (λ c κs. let w = c .before .loop .inv in (w .number, omega (arith, w .room, w .size)))
+    (λ c. let f = c .before .before .fill .ensures in omega (arith, f .within, stored-length (f .stored)))
+    (λ c. let filled = c .before .before .before in filled-size (filled .before .before .loop .inv) (filled .fill .ensures))
+    put-next-requires-2 returns-2 (λ c κs. search needs) loop-less loop-again)

@@ -1,0 +1,32 @@
+-- Demand 3 holds of what calls returned to the code that made them.
+use Rattle.lists.proofs.Basics.{_≡_, refl, sym, ap, _∙_, _∷_, _++_}
+use Rattle.slots.specs.declared.Manager.{Manager}
+use Rattle.slots.specs.declared.Outcome.{Outcome}
+use Rattle.slots.specs.Calls.{start, outcome}
+use Rattle.calls.specs.Histories.{Entry, History}
+use Rattle.calling.specs.Returned.{New}
+use Rattle.calling.specs.Lived.{Lived}
+use Rattle.calling.proofs.Lived.{lived-since, lived-reached, cut, number-accepted}
+use Rattle.demands.specs.Demands.{Begun}
+use Rattle.demands.specs.Lives.{SinceStart}
+use Rattle.demands.proofs.DemandThree.{demand-3}
+
+-- wherever a start was accepted, as code read it off the number that came back
+pub lived-demand-3 : (m₀ m : Manager) (s : History) (e : Entry) (h : History) → New m₀ → Lived m₀ m (s ++ (e ∷ h)) → e .call ≡ start → e .number ≡ 0
+    → SinceStart m s
+lived-demand-3 m₀ m s e h new l starts accepted =
+    let c = cut m₀ m (s ++ (e ∷ h)) l s e h refl in
+    let result : c .result ≡ outcome (c .on) start = c .given ∙ ap (outcome (c .on)) starts in
+    let begun : Begun (c .result .manager) =
+    record {
+      before = c .on;
+      reached = lived-reached m₀ (c .on) h new (c .earlier);
+      accepted = ap (λ (o : Outcome). o .answer) (sym result) ∙ number-accepted (c .result .answer) (c .number ∙ accepted);
+      same = ap (λ (o : Outcome). o .manager) result;
+    } in
+    record {
+      started = c .result .manager;
+      begun = begun;
+      since = lived-since (c .result .manager) m s (c .since);
+      demand = λ i used. demand-3 (c .result .manager) begun i used;
+    }

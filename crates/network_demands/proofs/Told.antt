@@ -1,0 +1,405 @@
+-- Exactly when a network is said to be full: where it stands on its way there is kept by every call.
+use Rattle.lists.proofs.Basics.{ℕ, suc, _+_, _≤_, _<_, arith, ne-eqb, ltb-true, leb-true, leb-false, lt-ltb, le-leb, lt-leb, _≡_, refl, sym, ap}
+use Rattle.lists.proofs.Basics.{subst, _∙_, List, [], _∷_, Bool, true, false, cond, _&&_, false≢true, true≢false, leb, ltb, eqb}
+use Rattle.lists.specs.Lists.{any, every}
+use Rattle.lists.proofs.Tests.{split}
+use Rattle.records.specs.declared.ControllerMode.{ControllerMode}
+use Rattle.records.specs.declared.Mode.{Mode}
+use Rattle.records.specs.declared.Record.{Record}
+use Rattle.records.specs.Records.{modeNumber}
+use Rattle.settings.specs.declared.Network.{Network}
+use Rattle.settings.specs.Settings.{controllersOf, member}
+use Rattle.settings.specs.Good.{Distinct, InRange}
+use Rattle.steps.specs.declared.Step.{Step}
+use Rattle.steps.specs.declared.Step.the-variants.{NoCommunication, TransceiverNormal, ControllersStopped, ControllersStarted, Checking, Full}
+use Rattle.steps.specs.declared.Step.the-variants.{Restarting, Waiting, Silent, ClearWake, DownStopped, TransceiverStandby, ControllersSleep}
+use Rattle.steps.specs.declared.Step.the-variants.{CheckWake, CheckWakeAgain}
+use Rattle.steps.specs.declared.Phase.{Phase}
+use Rattle.steps.specs.declared.Timer.{Timer}
+use Rattle.steps.specs.declared.Ask.{Ask}
+use Rattle.steps.specs.declared.Outfit.{Outfit}
+use Rattle.steps.specs.declared.Move.{Move}
+use Rattle.steps.specs.declared.Move.the-variants.{AskAgain, Count, EnterFull, EnterSilent, Wait, GoDown, EnterNoCommunication}
+use Rattle.steps.specs.Steps.{phaseOf, asksFor, timerOf, upPhase, isUp, asksToStart}
+use Rattle.steps.specs.Decision.{risen, decision}
+use Rattle.steps.specs.After.{stepAfter}
+use Rattle.handing.specs.Handing.{requests, moveRecords, recovery}
+use Rattle.network.specs.declared.Heard.{Heard}
+use Rattle.network.specs.declared.Report.{Report}
+use Rattle.network.specs.declared.State.{State}
+use Rattle.network.specs.State.{blankAnswers, heardOf, started}
+use Rattle.network.specs.Rules.{isOkay, isRefusal, isLong, delayOf, outfitOf}
+use Rattle.network.specs.Moving.{countAfter, asksAfter, keepsAnswers, afterMove}
+use Rattle.network.specs.Answers.{takesReport}
+use Rattle.network.specs.BusOff.{madeAnew, afterHit}
+use Rattle.network.specs.Parts.{aTick, aBusOff, anAnswer}
+use Rattle.network_theorems.specs.Kept.{isFullMode, Kept}
+use Rattle.network_theorems.proofs.Moves.{ByMove, by-move}
+use Rattle.network_demands.specs.Words.{is, Seen, OwnHistory, since, tally, isAnswer, ticked, setback, told, wanted, wantedAtTick, up, owed}
+use Rattle.network_demands.specs.Words.{askedToStart, runs, allRun, firstRunning, Told, ToldNo, Answered}
+use Rattle.network_demands.specs.Own.{finished, reaches, decides, tickAfter, tickHands, recovered, played, stateOf, Fits, Ran}
+use Rattle.network_demands.proofs.Views.{seen, by-part}
+use Rattle.network_demands.proofs.Tests.{finished-just, reaches-just}
+use Rattle.network_demands.proofs.Handed.{isGoDown, move-shuts}
+use Rattle.network_demands.proofs.Given.{start-asks}
+use Rattle.network_demands.proofs.Slots.{every-member, every-same, saidOkay, no-answer-yet, all-okay}
+use Rattle.network_demands.proofs.Up.{up-means, says}
+use Rattle.network_demands.proofs.Follows.{state-kept, Follows, follows, follows-fall, told-follows, delay-follows}
+use Rattle.network_demands.proofs.Running.{since-by, owed-by, asked-first, first-stays, first-tick, none-run}
+use Rattle.network_demands.proofs.Way.{Way, away, starting, delayed, there, silenced, wayIn, wayOf, isThere, down-away, way-away}
+use Rattle.network_demands.proofs.Way.{first-down-away, full-there, to-start, Starts, Running, Away, Stands, StandsAt, stands-same}
+use Rattle.network_demands.proofs.Way.{heard-stands, anew, nothing-since}
+
+-- ---- ticks
+-- a tick count below a delay rises by one
+risen-one : (t : ℕ) → t < 65535 → risen t ≡ t + 1
+risen-one t l = rw (lt-ltb t 65535 l) refl
+
+delay-range : (n : Network) → InRange n → (count : ℕ) → (1 ≤ delayOf n count) × (delayOf n count < 65536)
+unfolding delayOf
+delay-range n g count = split (λ (x : ℕ). (1 ≤ x) × (x < 65536)) (isLong (n .threshold) count) (λ _. g .long) (λ _. g .short)
+
+-- q is what followed the last setback before the tick
+module _ (n : Network) (g : InRange n) (told : Mode) (asked : Bool) (answers : List Heard) (count : ℕ) (q : OwnHistory) (d : ℕ) where
+  abbrev ticking : List Record → Seen
+  ticking records = seen aTick true records
+
+  -- away, a tick that asks no controller to start leaves the network so
+  still-away : (records : List Record) → ((c : ℕ) → any (is 1 c 1) records ≡ false) → Away n q d → Away n (ticking records ∷ q) d
+  unfolding any
+  still-away records f i = record {
+    none = first-tick n (ticking records) q refl (i .none) ∙ rw (none-run n g q (i .unasked)) refl;
+    delay = i .delay;
+    unasked = λ c m. rw (f c) (i .unasked c m);
+  }
+
+  -- the requests to start go to each controller
+  all-asked : (ask : Ask) → asksToStart ask ≡ true → (c : ℕ) → member c (controllersOf n) ≡ true
+      → askedToStart c (ticking (requests ask n) ∷ q) ≡ true
+  unfolding any
+  all-asked ask e c m = rw (start-asks n c ask, e, m) refl
+
+  -- asked with this tick
+  sent-now : (records : List Record) → true ≡ ltb 0 (tally ticked (ticking records ∷ q))
+  unfolding tally
+  sent-now records = sym (lt-ltb 0 (suc (tally ticked q)) (omega arith))
+
+  -- the next step on the way up or down
+  entered : (next : Step) (w : ℕ) → isUp next ≡ false → Away n q d
+      → Stands n (wayOf next) true blankAnswers count (ticking (requests (asksFor next) n) ∷ q) d w
+  unfolding runs
+  entered next w u i = split (λ (way : Way). Stands n way true blankAnswers count (ticking (requests (asksFor next) n) ∷ q) d w)
+      (asksToStart (asksFor next))
+      (λ a. record {
+        none = first-tick n (ticking (requests (asksFor next) n)) q refl (i .none) ∙ rw (none-run n g q (i .unasked)) refl;
+        delay = rw u (i .delay);
+        sent = sent-now (requests (asksFor next) n);
+        requested = all-asked (asksFor next) a;
+        answered = λ c m. asked-first c q (i .unasked c m) ∙ sym (no-answer-yet n c);
+      })
+      (λ a. subst (λ (way : Way). Stands n way true blankAnswers count (ticking (requests (asksFor next) n) ∷ q) d w)
+      (sym (down-away (phaseOf next) (timerOf next) u)) (still-away (requests (asksFor next) n) (λ c. start-asks n c (asksFor next) ∙ rw a refl) i))
+
+  -- starting, all are asked again where not all run
+  asked-again : (again : Bool) → allRun n q ≡ false → Starts n again asked answers count q d
+      → Starts n again true answers count (ticking (requests (Ask.Controllers ControllerMode.Started) n) ∷ q) d
+  unfolding runs
+  asked-again again f i = record {
+    none = first-tick n (ticking (requests (Ask.Controllers ControllerMode.Started) n)) q refl (i .none) ∙ rw f refl;
+    delay = i .delay;
+    sent = sent-now (requests (Ask.Controllers ControllerMode.Started) n);
+    requested = all-asked (Ask.Controllers ControllerMode.Started) refl;
+    answered = i .answered;
+  }
+
+  -- starting, where all run this tick is the first before which they do, and it is not the first of all
+  first-now : (again : Bool) (records : List Record) → allRun n q ≡ true → Starts n again asked answers count q d
+      → Running n (ticking records ∷ q) × (firstRunning n (ticking records ∷ q) ≡ suc (tally ticked q))
+  unfolding runs
+  first-now again records f i =
+      let now : firstRunning n (ticking records ∷ q) ≡ suc (tally ticked q) = first-tick n (ticking records) q refl (i .none) ∙ rw f refl in
+      (record { all = λ c m. every-member (λ (c : ℕ). runs c q) c (controllersOf n) f m; later = rw now (omega (arith, by-test asked refl)) }, now)
+    where
+      by-test : (b : Bool) → asked ≡ b → 0 < tally ticked q
+      by-test true e = ltb-true 0 (tally ticked q) (sym (i .sent) ∙ e)
+      by-test false e = absurd (true≢false (sym f ∙ none-run n g q (λ c m. i .requested c m ∙ e)))
+
+  -- once all run a tick changes nothing of that
+  still-running : (records : List Record) → Running n q → Running n (ticking records ∷ q)
+  unfolding runs
+  still-running records i = record { all = i .all; later = rw (first-stays n (ticking records) q (omega (arith, i .later))) (i .later) }
+
+  first-still : (records : List Record) → Running n q → firstRunning n (ticking records ∷ q) ≡ firstRunning n q
+  first-still records i = first-stays n (ticking records) q (omega (arith, i .later))
+
+  -- what a move makes of where the network stands
+  abbrev After : Step → Mode → Move → Type 0
+  After step wanted m =
+      Stands n (wayOf (stepAfter m step (n .partial))) (asksAfter m asked) (cond (keepsAnswers m) answers blankAnswers) (countAfter m count)
+      (cond (isGoDown m) [] (ticking (moveRecords n step told m) ∷ q)) (cond (isGoDown m) 0 d) (modeNumber wanted)
+
+  gone : (step : Step) → After step Mode.No GoDown
+  gone step = subst (λ (way : Way). Stands n way true blankAnswers count [] 0 0) (sym (first-down-away (n .partial))) (nothing-since n)
+
+  -- from a step that is not up and does not ask the controllers to start
+  abbrev AfterAway : Step → Mode → Move → Type 0
+  AfterAway step wanted m = isUp step ≡ false → asksToStart (asksFor step) ≡ false → Away n q d → After step wanted m
+
+  after-away : (done : Bool) → ByMove done AfterAway
+  unfolding moveRecords any
+  after-away done = record {
+    stays = λ step wanted u a i. rw (way-away step u a) (still-away [] (λ c. refl) i);
+    asks-again = λ step wanted _ u a i.
+        rw (way-away step u a) (still-away (requests (asksFor step) n) (λ c. start-asks n c (asksFor step) ∙ rw a refl) i);
+    counts = λ step next wanted p p′ f u a i. absurd (false≢true (sym u ∙ p .up));
+    passes = λ step wanted p f u a i. absurd (false≢true (sym u ∙ p .up));
+    fills = λ step wanted p u a i. absurd (false≢true (sym u ∙ p .up));
+    starts = λ step wanted _ b u a i. absurd (false≢true (sym a ∙ b));
+    silences = λ step wanted p u a i. absurd (false≢true (sym u ∙ p .up));
+    waits = λ step wanted _ b f u a i. absurd (false≢true (sym a ∙ b));
+    goes-down = λ step o u a i. gone step;
+    ends = λ step wanted _ u a i. still-away (moveRecords n step told EnterNoCommunication) (λ c. refl) i;
+    enters = λ step next wanted _ same _ u a i. entered next (modeNumber wanted) (same ∙ u) i;
+  }
+
+  -- in step 3, in step 6 and in step 7, where the network does not go down
+  after-starting : (done : Bool) → done ≡ allRun n q → Starts n false asked answers count q d
+      → After ControllersStarted Mode.Full (cond done EnterFull AskAgain)
+  unfolding moveRecords tally
+  after-starting done p i = split (After ControllersStarted Mode.Full) done
+      (λ e. let x = first-now false (moveRecords n ControllersStarted told EnterFull) (sym p ∙ e) i in (x .0, omega (arith, x .1, i .delay), refl))
+      (λ e. asked-again false (sym p ∙ e) i)
+
+  after-restarting : (wanted : Mode) (done : Bool) → done ≡ allRun n q → Starts n true asked answers count q d
+      → After Restarting wanted (cond done Wait AskAgain)
+  unfolding moveRecords tally
+  after-restarting wanted done p i = split (After Restarting wanted) done
+      (λ e. let x = first-now true (moveRecords n Restarting told Wait) (sym p ∙ e) i in
+      (x .0, i .delay, omega (arith, x .1), omega (arith, i .delay, delay-range n g count .0)))
+      (λ e. asked-again true (sym p ∙ e) i)
+
+  after-waiting : (t w : ℕ) (wanted : Mode) (m : Move) (reached : Bool) → reached ≡ leb (delayOf n count) (t + 1)
+      → Stands n (delayed t) asked answers count q d w → (firstRunning n q + d ≤ suc (tally ticked q) → After (Waiting t) wanted m)
+      → After (Waiting t) wanted (cond reached m (Count (Waiting (risen t))))
+  unfolding moveRecords tally
+  after-waiting t w wanted m reached r i f = split (After (Waiting t) wanted) reached
+      (λ e. f (omega (arith, i .1, i .2, leb-true (delayOf n count) (t + 1) (sym r ∙ e))))
+      (λ e.
+      let l = leb-false (delayOf n count) (t + 1) (sym r ∙ e) in
+      let one = risen-one t (omega (arith, delay-range n g count .1)) in
+      (still-running [] (i .0), i .1, omega (arith, i .2, first-still [] (i .0)), omega (arith, i .1)))
+
+  -- where the time has passed, full or silent is entered, or all stays
+  on-there : (records : List Record) → Running n q → firstRunning n q + d ≤ suc (tally ticked q)
+      → Running n (ticking records ∷ q) × (firstRunning n (ticking records ∷ q) + d ≤ tally ticked (ticking records ∷ q))
+  unfolding tally
+  on-there records i l = (still-running records i, rw (first-still records i) l)
+
+  module _ (w : ℕ) (done refused reached : Bool) (outfit : Outfit) where
+    -- each step by what it does; what is done and reached is as the record has it
+    after : (step : Step) (wanted : Mode) → (wanted ≡ Mode.Silent → isUp step ≡ true) → (asksToStart (asksFor step) ≡ true → done ≡ allRun n q)
+        → ((t : ℕ) → step ≡ Waiting t → reached ≡ leb (delayOf n count) (t + 1)) → Stands n (wayOf step) asked answers count q d w
+        → After step wanted (decision step wanted done refused reached outfit)
+    unfolding decision
+    after NoCommunication wanted s p r i = by-move AfterAway done (after-away done) NoCommunication wanted refused reached outfit refl refl i
+    after TransceiverNormal wanted s p r i = by-move AfterAway done (after-away done) TransceiverNormal wanted refused reached outfit refl refl i
+    after ControllersStopped wanted s p r i = by-move AfterAway done (after-away done) ControllersStopped wanted refused reached outfit refl refl i
+    after ControllersStarted Mode.No s p r i = gone ControllersStarted
+    after ControllersStarted Mode.Silent s p r i = absurd (false≢true (s refl))
+    after ControllersStarted Mode.Full s p r i = after-starting done (p refl) i
+    after (Checking t) Mode.No s p r i = gone (Checking t)
+    after (Checking t) Mode.Silent s p r i = let x = on-there _ (i .0) (omega (arith, i .1)) in (x .0, x .1, refl)
+    after (Checking t) Mode.Full s p r i =
+        split (After (Checking t) Mode.Full) reached
+        (λ _. let x = on-there _ (i .0) (omega (arith, i .1)) in (x .0, x .1, refl))
+        (λ _. let x = on-there _ (i .0) (omega (arith, i .1)) in (x .0, x .1, refl))
+    after Full Mode.No s p r i = gone Full
+    after Full Mode.Silent s p r i = let x = on-there _ (i .0) (omega (arith, i .1)) in (x .0, x .1, refl)
+    after Full Mode.Full s p r i = let x = on-there _ (i .0) (omega (arith, i .1)) in (x .0, x .1, refl)
+    after Restarting Mode.No s p r i = gone Restarting
+    after Restarting Mode.Silent s p r i = after-restarting Mode.Silent done (p refl) i
+    after Restarting Mode.Full s p r i = after-restarting Mode.Full done (p refl) i
+    after (Waiting t) Mode.No s p r i = gone (Waiting t)
+    after (Waiting t) Mode.Silent s p r i =
+        after-waiting t w Mode.Silent EnterSilent reached (r t refl) i (λ l. let x = on-there _ (i .0) l in (x .0, x .1, refl))
+    after (Waiting t) Mode.Full s p r i =
+        after-waiting t w Mode.Full EnterFull reached (r t refl) i (λ l. let x = on-there _ (i .0) l in (x .0, x .1, refl))
+    after Silent Mode.No s p r i = gone Silent
+    after Silent Mode.Silent s p r i = let x = on-there _ (i .0) (omega (arith, i .1)) in (x .0, x .1, refl)
+    after Silent Mode.Full s p r i = let x = on-there _ (i .0) (omega (arith, i .1)) in (x .0, x .1, refl)
+    after ClearWake wanted s p r i = by-move AfterAway done (after-away done) ClearWake wanted refused reached outfit refl refl i
+    after DownStopped wanted s p r i = by-move AfterAway done (after-away done) DownStopped wanted refused reached outfit refl refl i
+    after TransceiverStandby wanted s p r i = by-move AfterAway done (after-away done) TransceiverStandby wanted refused reached outfit refl refl i
+    after ControllersSleep wanted s p r i = by-move AfterAway done (after-away done) ControllersSleep wanted refused reached outfit refl refl i
+    after CheckWake wanted s p r i = by-move AfterAway done (after-away done) CheckWake wanted refused reached outfit refl refl i
+    after CheckWakeAgain wanted s p r i = by-move AfterAway done (after-away done) CheckWakeAgain wanted refused reached outfit refl refl i
+
+-- ---- all that is seen
+module _ (n : Network) (g : InRange n) (f : Distinct (controllersOf n)) (h : OwnHistory) (s : State) (k : Kept n s) (u : up n h ≡ isUp (s .step))
+    (v : Follows n s h) (i : StandsAt n s h) where
+  abbrev StillStands : Seen → State → Type 0
+  StillStands e t = StandsAt n t (e ∷ h)
+
+  -- a step that asks the controllers to start is done exactly if all run
+  done-runs : asksToStart (asksFor (s .step)) ≡ true → finished n s ≡ allRun n (since (setback n) h)
+  done-runs a = finished-just n s (to-start (asksFor (s .step)) a) ∙ by-test (s .asked) refl
+    where
+      j : Starts n (isUp (s .step)) (s .asked) (s .answers) (s .count) (since (setback n) h) (owed n h)
+      j = rw a at i
+
+      by-test : (b : Bool) → s .asked ≡ b → cond b (every isOkay (heardOf n s)) false ≡ allRun n (since (setback n) h)
+      by-test true e = all-okay n s g f k ∙ every-same (saidOkay n (s .answers)) (λ (c : ℕ). runs c (since (setback n) h))
+          (controllersOf n) (λ c m. sym (j .answered c m))
+      by-test false e = sym (none-run n g (since (setback n) h) (λ c m. j .requested c m ∙ e))
+
+  stands-tick : StillStands (seen aTick true (tickHands n s)) (tickAfter n s)
+  unfolding afterMove wantedAtTick
+  stands-tick =
+      let m = decides n s in
+      let e : Seen = seen aTick true (tickHands n s) in
+      let shuts : setback n e ≡ isGoDown m = move-shuts n (s .step) _ m in
+      rw (since-by n e h (isGoDown m) shuts, owed-by n e h (isGoDown m) shuts, ← v .wanted)
+      (after n g _ (s .asked) (s .answers) (s .count) (since (setback n) h) (owed n h) (wantedAtTick h) (finished n s)
+      (any isRefusal (heardOf n s)) (reaches n s) (outfitOf (n .transceiver) (n .partial)) (s .step) (s .wanted)
+      (k .wanted) done-runs (reaches-just n s) i)
+
+  stands-call : (e : Seen) → Fits n s e → StillStands e (played n s (e .sight) .state)
+  unfolding any runs wantedAtTick afterHit madeAnew
+  stands-call = by-part n s StillStands (record {
+    plain = λ sight accepted wanted reported p.
+        let e : Seen = seen sight accepted [] in
+        let calm : setback n e ≡ false = rw (p .bus-off) refl in
+        rw (since-by n e h false calm, owed-by n e h false calm, p .tick)
+        (stands-same n e (since (setback n) h) (p .tick) (λ c. refl) (λ c m. rw (p .answer c 1 1 m, p .answer c 1 0 m) refl)
+        (wayOf (s .step)) (s .asked) (s .answers) (s .count) (owed n h) (wantedAtTick h) i);
+    hears = λ c mode ok m l t.
+        let e : Seen = seen (anAnswer c mode ok) true [] in
+        rw (since-by n e h false refl, owed-by n e h false refl)
+        (heard-stands n g s k c mode ok m l (since (setback n) h) t (owed n h) (wantedAtTick h) i);
+    recovers = λ b.
+        let e : Seen = seen aBusOff true (recovery (n .handle)) in
+        rw (since-by n e h true refl, owed-by n e h true refl, u, b)
+        (anew n true _ _ (sym (delay-follows n g (e ∷ h) (recovered s) (follows-fall n h s u v b))));
+    restarts = λ b a.
+        let e : Seen = seen aBusOff true [] in
+        rw (since-by n e h true refl, owed-by n e h true refl, u, b, a) (anew n false _ 0 refl);
+    not-taken = λ b a.
+        let e : Seen = seen aBusOff false [] in
+        rw (way-away (s .step) b a, since-by n e h true refl, owed-by n e h true refl, u, b) (nothing-since n);
+    ticks = stands-tick;
+  })
+
+pub stands-at : (n : Network) → InRange n → Distinct (controllersOf n) → (h : OwnHistory) → Ran n h → StandsAt n (stateOf n h) h
+unfolding stateOf Ran started since owed
+stands-at n g f [] r = rw (first-down-away (n .partial)) (nothing-since n)
+stands-at n g f (e ∷ h) r =
+    stands-call n g f h (stateOf n h) (state-kept n g h (r .1)) (up-means n h (r .1)) (follows n h (r .1)) (stands-at n g f h (r .1)) e (r .0)
+
+-- ---- exactly when full is told
+-- there, full is due; elsewhere not
+due-there : (n : Network) (way : Way) (asked : Bool) (answers : List Heard) (count d w : ℕ) (s : OwnHistory) → Stands n way asked answers count s d w
+    → isThere way ≡ (ltb 0 (firstRunning n s) && (leb (firstRunning n s + d) (tally ticked s) && eqb 2 w))
+due-there n away asked answers count d w s i = rw (i .none) refl
+due-there n (starting again) asked answers count d w s i = rw (i .none) refl
+due-there n (delayed t) asked answers count d w s i =
+    rw (lt-ltb 0 (firstRunning n s) (omega (arith, i .0 .later)), lt-leb (firstRunning n s + d) (tally ticked s) (omega (arith, i .2))) refl
+due-there n there asked answers count d w s i =
+    rw (lt-ltb 0 (firstRunning n s) (omega (arith, i .0 .later)), le-leb (firstRunning n s + d) (tally ticked s) (i .1), i .2) refl
+due-there n silenced asked answers count d w s i =
+    rw (lt-ltb 0 (firstRunning n s) (omega (arith, i .0 .later)), le-leb (firstRunning n s + d) (tally ticked s) (i .1), i .2) refl
+
+-- a tick before which all run is never the first since the setback
+later-than-first : (n : Network) (way : Way) (asked : Bool) (answers : List Heard) (count d w : ℕ) (s : OwnHistory)
+    → Stands n way asked answers count s d w → eqb 1 (firstRunning n s) ≡ false
+later-than-first n away asked answers count d w s i = rw (i .none) refl
+later-than-first n (starting again) asked answers count d w s i = rw (i .none) refl
+later-than-first n (delayed t) asked answers count d w s i = ne-eqb 1 (firstRunning n s) (λ e. omega (arith, i .0 .later))
+later-than-first n there asked answers count d w s i = ne-eqb 1 (firstRunning n s) (λ e. omega (arith, i .0 .later))
+later-than-first n silenced asked answers count d w s i = ne-eqb 1 (firstRunning n s) (λ e. omega (arith, i .0 .later))
+
+-- there, all run
+there-running : (n : Network) (way : Way) (asked : Bool) (answers : List Heard) (count d w : ℕ) (s : OwnHistory)
+    → Stands n way asked answers count s d w → isThere way ≡ true → (c : ℕ) → member c (controllersOf n) ≡ true → runs c s ≡ true
+there-running n away asked answers count d w s i e = absurd (false≢true e)
+there-running n (starting again) asked answers count d w s i e = absurd (false≢true e)
+there-running n (delayed t) asked answers count d w s i e = absurd (false≢true e)
+there-running n there asked answers count d w s i e = i .0 .all
+there-running n silenced asked answers count d w s i e = absurd (false≢true e)
+
+pub full-mode-number : (mode : Mode) → eqb 2 (modeNumber mode) ≡ isFullMode mode
+full-mode-number Mode.No = refl
+full-mode-number Mode.Silent = refl
+full-mode-number Mode.Full = refl
+
+module _ (n : Network) (g : InRange n) (f : Distinct (controllersOf n)) (h : OwnHistory) (r : Ran n h) where
+  abbrev w : State
+  w = stateOf n h
+
+  abbrev q : OwnHistory
+  q = since (setback n) h
+
+  -- full is told exactly where the network is there
+  told-there : eqb 2 (told n h) ≡ isThere (wayOf (w .step))
+  told-there =
+      ap (eqb 2) (sym (told-follows n h r)) ∙ full-mode-number (w .told) ∙ state-kept n g h r .told ∙ full-there (w .step)
+
+  pub told-exactly : Told n h
+  told-exactly =
+      told-there ∙ due-there n (wayOf (w .step)) (w .asked) (w .answers) (w .count) (owed n h) (wantedAtTick h) q (stands-at n g f h r)
+
+  pub never-at-first : eqb 1 (firstRunning n q) ≡ false
+  never-at-first =
+      later-than-first n (wayOf (w .step)) (w .asked) (w .answers) (w .count) (owed n h) (wantedAtTick h) q (stands-at n g f h r)
+
+  pub told-no : ToldNo n h
+  told-no = ap (eqb 0) (sym (told-follows n h r)) ∙ says n h r .silence
+
+  -- demand 3, first sentence
+  pub first-sentence : Answered n h
+  first-sentence e =
+      there-running n (wayOf (w .step)) (w .asked) (w .answers) (w .count) (owed n h) (wantedAtTick h) q (stands-at n g f h r)
+      (sym told-there ∙ ap (eqb 2) e)
+
+  -- ---- while up, as long as not all have run
+  module _ (u : up n h ≡ true) (z : firstRunning n q ≡ 0) where
+    -- the controllers are asked to start
+    starting-again : asksToStart (asksFor (w .step)) ≡ true
+    starting-again = by-test (asksToStart (asksFor (w .step))) (stands-at n g f h r)
+      where
+        later : (phase : Phase) (timer : Timer) → upPhase phase ≡ true
+            → Stands n (wayIn phase timer) (w .asked) (w .answers) (w .count) q (owed n h) (wantedAtTick h) → 2 ≤ firstRunning n q
+        later Phase.Off timer e i = absurd (false≢true e)
+        later Phase.Rising timer e i = absurd (false≢true e)
+        later Phase.Checking timer e i = i .0 .later
+        later Phase.Full timer e i = i .0 .later
+        later Phase.Recovering timer e i = i .0 .later
+        later Phase.Silent timer e i = i .0 .later
+        later Phase.Falling timer e i = absurd (false≢true e)
+
+        by-test : (b : Bool) → Stands n (cond b (starting (isUp (w .step))) (wayIn (phaseOf (w .step)) (timerOf (w .step))))
+            (w .asked) (w .answers) (w .count) q (owed n h) (wantedAtTick h) → b ≡ true
+        by-test true i = refl
+        by-test false i = absurd (omega (arith, later (phaseOf (w .step)) (timerOf (w .step)) (sym (up-means n h r) ∙ u) i))
+
+    starts-again : Starts n (isUp (w .step)) (w .asked) (w .answers) (w .count) q (owed n h)
+    starts-again = rw starting-again at (stands-at n g f h r)
+
+    -- each of them was, exactly if a tick came
+    pub asked-by-tick : (c : ℕ) → member c (controllersOf n) ≡ true → askedToStart c q ≡ ltb 0 (tally ticked q)
+    asked-by-tick c m = starts-again .requested c m ∙ starts-again .sent
+
+    -- and then an ok of one of them is accepted
+    pub okay-accepted : (e : Seen) → Fits n w e → 0 < tally ticked q → (c : ℕ) → member c (controllersOf n) ≡ true → isAnswer c 1 (e .sight) ≡ true
+        → e .accepted ≡ true
+    unfolding takesReport
+    okay-accepted e fits some c m = by-part n w (λ e t. isAnswer c 1 (e .sight) ≡ true → e .accepted ≡ true) (record {
+      plain = λ sight accepted mode reported p a. absurd (true≢false (sym awaited ∙ p .deaf c m a));
+      hears = λ c mode ok m l t a. refl;
+      recovers = λ b a. refl;
+      restarts = λ b s a. refl;
+      not-taken = λ b s a. absurd (false≢true a);
+      ticks = λ a. refl;
+    }) e fits
+      where
+        awaited : takesReport w (Report.Controller 1) ≡ true
+        awaited = rw (starts-again .sent ∙ lt-ltb 0 (tally ticked q) some, to-start (asksFor (w .step)) starting-again) refl

@@ -1,0 +1,348 @@
+"""What demand 3 and the promises beside it say of a history, as `crates/network_demands/specs` and `crates/demands/specs` say it.
+
+Written over calls, answers and records alone: nothing here looks into a manager. A history has the latest entry last. The words have the
+names of the definitions (`up`, `rested`, `on`, `awaited`, `runs`), and `broken` names every statement that is false of a history.
+"""
+
+from dataclasses import dataclass
+from typing import Callable, List, NamedTuple, Optional, Tuple
+
+from model import ControllerMode, EventManagerNotice, Kind, Limit, Mode, ModeManagerNotice, PduMode, Record, Refusal, Settings, TransceiverMode
+
+TICK = "tick"
+BUS_OFF = "bus-off"
+ANSWER = "answer"
+REQUEST = "request"
+REPORT = "report"
+CLEARED = "cleared"
+CHECKED = "checked"
+NOTHING = "nothing"
+
+
+@dataclass
+class Seen:
+    """An entry as one network sees it: what the call is to it, its numbers, whether it was accepted, and the records that name its ids."""
+
+    sight: str
+    accepted: bool
+    records: List[Record]
+    values: Tuple[int, ...] = ()
+
+    def hands(self, kind: int, target: int, argument: int) -> bool:
+        return (kind, target, argument) in self.records
+
+    def has_kind(self, kind: int) -> bool:
+        return any(record[0] == kind for record in self.records)
+
+
+History = List[Seen]
+Test = Callable[[Seen], bool]
+
+
+class Call(NamedTuple):
+    """A call of the manager since the start: its name, its numbers, and the bytes that it is lent."""
+
+    name: str
+    values: Tuple[int, ...] = ()
+    lent: int = 0
+
+
+def own_records(network: Settings, records: List[Record]) -> List[Record]:
+    """The records that name an id of the network, by their kind."""
+    transceiver = [] if network.transceiver is None else [network.transceiver]
+    targets = {
+        Kind.CONTROLLER_MODE: network.controllers,
+        Kind.PDU_MODE: network.controllers,
+        Kind.TRANSCEIVER_MODE: transceiver,
+        Kind.CLEAR_WAKE_FLAG: transceiver,
+        Kind.CHECK_WAKE_FLAG: transceiver,
+    }
+    return [record for record in records if record[1] in targets.get(record[0], [network.handle])]
+
+
+def view(network: Settings, call: Call, number: int, records: List[Record]) -> Seen:
+    """How the network sees an entry: a refused tick is nothing, and so is a bus-off that was refused for lack of room."""
+    accepted = number == 0
+    sight = NOTHING
+    if call.name == TICK and accepted:
+        sight = TICK
+    elif call.name == BUS_OFF and call.values[0] in network.controllers:
+        if not (number == Refusal.BUFFER_TOO_SHORT and call.lent < Limit.BUS_OFF_BYTES):
+            sight = BUS_OFF
+    elif call.name == ANSWER and call.values[0] in network.controllers:
+        sight = ANSWER
+    elif call.name == REQUEST and call.values[0] == network.handle:
+        sight = REQUEST
+    elif call.name in (REPORT, CLEARED, CHECKED) and call.values[0] == network.transceiver:
+        sight = call.name
+    return Seen(sight, accepted, own_records(network, records), call.values)
+
+
+# ---------------------------------------------------------------------------
+# The words
+# ---------------------------------------------------------------------------
+
+
+def since(test: Test, history: History) -> History:
+    """What follows the last entry that passes the test; all, where none does."""
+    for place in range(len(history) - 1, -1, -1):
+        if test(history[place]):
+            return history[place + 1:]
+    return history
+
+
+def ticked(entry: Seen) -> bool:
+    return entry.sight == TICK
+
+
+def fell(entry: Seen) -> bool:
+    return entry.sight == BUS_OFF
+
+
+def ticks(history: History) -> int:
+    return sum(ticked(entry) for entry in history)
+
+
+class Words:
+    """The words of demand 3 for one network."""
+
+    def __init__(self, network: Settings):
+        self.network = network
+        self.handle = network.handle
+
+    def tells(self, mode: int) -> Test:
+        return lambda entry: entry.hands(Kind.COMMUNICATION_MANAGER, self.handle, mode)
+
+    def shut(self, entry: Seen) -> bool:
+        return entry.hands(Kind.MODE_MANAGER, self.handle, ModeManagerNotice.NO)
+
+    def cleared(self, entry: Seen) -> bool:
+        return entry.hands(Kind.EVENT_MANAGER, self.handle, EventManagerNotice.PASSED)
+
+    def setback(self, entry: Seen) -> bool:
+        return fell(entry) or self.shut(entry)
+
+    def told(self, history: History) -> int:
+        for entry in reversed(history):
+            for record in reversed(entry.records):
+                if record[0] == Kind.COMMUNICATION_MANAGER and record[1] == self.handle:
+                    return record[2]
+        return Mode.NO
+
+    def wanted(self, history: History) -> int:
+        for entry in reversed(history):
+            if entry.sight == REQUEST and entry.accepted:
+                return entry.values[1]
+        return Mode.NO
+
+    def wanted_at_tick(self, history: History) -> int:
+        for place in range(len(history) - 1, -1, -1):
+            if ticked(history[place]):
+                return self.wanted(history[:place])
+        return Mode.NO
+
+    def up(self, history: History) -> bool:
+        return any(self.tells(Mode.FULL)(entry) for entry in since(self.shut, history))
+
+    def rested(self, history: History) -> bool:
+        return any(self.tells(Mode.NO)(entry) for entry in since(self.shut, history))
+
+    def on(self, history: History) -> bool:
+        """It came to rest, and full was wanted at some tick since no was last told."""
+        begin = len(history) - len(since(self.tells(Mode.NO), history))
+        called_up = any(ticked(history[place]) and self.wanted(history[:place]) == Mode.FULL for place in range(begin, len(history)))
+        return self.rested(history) and called_up
+
+    def asked_to_start(self, controller: int, history: History) -> bool:
+        return any(entry.hands(Kind.CONTROLLER_MODE, controller, ControllerMode.STARTED) for entry in history)
+
+    def runs(self, controller: int, history: History) -> bool:
+        """Its last accepted answer to the request to start is ok, and it was asked before."""
+        for place in range(len(history) - 1, -1, -1):
+            entry = history[place]
+            if entry.sight == ANSWER and entry.accepted and entry.values[:2] == (controller, ControllerMode.STARTED):
+                return entry.values[2] == 1 and self.asked_to_start(controller, history[:place])
+        return False
+
+    def all_run(self, history: History) -> bool:
+        return all(self.runs(controller, history) for controller in self.network.controllers)
+
+    def falls(self, history: History) -> int:
+        """The bus-offs while up since the last all-clear: whether one came while up is read off what went before it."""
+        count = 0
+        for place, entry in enumerate(history):
+            if self.cleared(entry):
+                count = 0
+            elif fell(entry) and self.up(history[:place]):
+                count += 1
+        return count
+
+    def delay_at(self, history: History) -> int:
+        return self.network.long_delay if self.falls(history) > self.network.threshold else self.network.short_delay
+
+    def owed(self, history: History) -> int:
+        """The delay that the last setback brings: that of a bus-off while up, else none."""
+        place = len(history) - len(since(self.setback, history)) - 1
+        if place < 0 or not (fell(history[place]) and self.up(history[:place])):
+            return 0
+        return self.delay_at(history[:place + 1])
+
+    def first_running(self, part: History) -> int:
+        """The number of the first tick of a part before which every controller runs within it; 0 where there is none."""
+        for place, entry in enumerate(part):
+            if ticked(entry) and self.all_run(part[:place]):
+                return ticks(part[:place]) + 1
+        return 0
+
+    def duly(self, history: History) -> bool:
+        part = since(self.setback, history)
+        first = self.first_running(part)
+        return 0 < first and first + self.owed(history) <= ticks(part) and self.wanted_at_tick(history) == Mode.FULL
+
+    def awaited(self, kind: int, target: int, argument: int, history: History) -> bool:
+        """The last tick handed out such a record, and no bus-off was accepted since."""
+        for entry in reversed(history):
+            if ticked(entry):
+                return entry.hands(kind, target, argument)
+            if fell(entry) and entry.accepted:
+                return False
+        return False
+
+
+# ---------------------------------------------------------------------------
+# The statements
+# ---------------------------------------------------------------------------
+
+
+def broken_by_told(words: Words, history: History) -> List[str]:
+    """Of the whole history: exactly when full is told, and when no is."""
+    found = []
+    if (words.told(history) == Mode.FULL) != words.duly(history):
+        found.append("told-exactly")
+    was_full = any(words.tells(Mode.FULL)(entry) for entry in since(words.tells(Mode.NO), history))
+    if (words.told(history) == Mode.NO) == was_full:
+        found.append("told-no")
+    if words.told(history) == Mode.FULL and not words.all_run(since(words.setback, history)):
+        found.append("answered")
+    return found
+
+
+def broken_by_bus_off(words: Words, entry: Seen, before: History) -> List[str]:
+    if not fell(entry):
+        return []
+    handle = words.handle
+    due = [
+        (Kind.EVENT_MANAGER, handle, EventManagerNotice.PREFAILED),
+        (Kind.COMMUNICATION_MANAGER, handle, Mode.SILENT),
+        (Kind.MODE_MANAGER, handle, ModeManagerNotice.BUS_OFF),
+    ]
+    begun = [words.asked_to_start(controller, since(words.shut, before)) for controller in words.network.controllers]
+    found = []
+    if entry.records != (due if words.up(before) else []):
+        found.append("bus-off-records")
+    if any(asked != entry.accepted for asked in begun):
+        found.append("bus-off-accepted")
+    return found
+
+
+def broken_by_answer(words: Words, entry: Seen, before: History) -> List[str]:
+    if entry.sight == ANSWER:
+        controller, mode, ok = entry.values
+        due = mode <= Limit.MODE and ok <= Limit.OK and words.awaited(Kind.CONTROLLER_MODE, controller, mode, before)
+    elif entry.sight == REPORT:
+        transceiver, mode = entry.values
+        due = mode <= Limit.MODE and words.awaited(Kind.TRANSCEIVER_MODE, transceiver, mode, before)
+    elif entry.sight in (CLEARED, CHECKED):
+        kind = Kind.CLEAR_WAKE_FLAG if entry.sight == CLEARED else Kind.CHECK_WAKE_FLAG
+        due = words.awaited(kind, entry.values[0], 0, before)
+    elif entry.sight == REQUEST:
+        due = entry.values[1] <= Limit.MODE and (entry.values[1] != Mode.SILENT or words.up(before))
+        return [] if entry.accepted == due else ["request-accepted"]
+    else:
+        return []
+    return [] if entry.accepted == due else ["answer-taken"]
+
+
+def broken_by_full(words: Words, entry: Seen, before: History) -> List[str]:
+    """When full is told, and what goes with it."""
+    found = []
+    after = before + [entry]
+    wants_full = words.wanted(before) == Mode.FULL
+    tells_full = words.tells(Mode.FULL)(entry)
+    if ticked(entry) and words.told(before) == Mode.FULL and (words.told(after) == Mode.FULL) != wants_full:
+        found.append("full-stays")
+    if tells_full and not (ticked(entry) and words.told(before) != Mode.FULL and wants_full):
+        found.append("full-told-by")
+    since_full = since(words.tells(Mode.FULL), after)
+    passed = ticked(entry) and words.told(after) == Mode.FULL and ticks(since_full) == words.network.ensure_time
+    if words.cleared(entry) != passed:
+        found.append("passed")
+    if any(entry.hands(Kind.PDU_MODE, controller, PduMode.ONLINE) != tells_full for controller in words.network.controllers):
+        found.append("online-with-full")
+    if words.told(after) == Mode.FULL and entry.has_kind(Kind.CONTROLLER_MODE):
+        found.append("full-asks-nothing")
+    return found
+
+
+def broken_by_down(words: Words, entry: Seen, before: History) -> List[str]:
+    """When a shutdown begins, and what goes out before a network has come to rest."""
+    found = []
+    handle = words.handle
+    goes_down = ticked(entry) and words.wanted(before) == Mode.NO and words.on(before)
+    if words.shut(entry) != goes_down:
+        found.append("shutdown")
+    if words.shut(entry):
+        notices = [(Kind.MODE_MANAGER, handle, ModeManagerNotice.NO)]
+        if words.told(before) == Mode.FULL:
+            notices.append((Kind.COMMUNICATION_MANAGER, handle, Mode.SILENT))
+        rest = entry.records[len(notices):]
+        if entry.records[:len(notices)] != notices or any(record[0] >= Kind.COMMUNICATION_MANAGER for record in rest):
+            found.append("shutdown-first")
+    if not words.rested(before):
+        asks = any(entry.hands(Kind.CONTROLLER_MODE, controller, ControllerMode.STARTED) for controller in words.network.controllers)
+        if asks or entry.has_kind(Kind.PDU_MODE) or words.tells(Mode.FULL)(entry):
+            found.append("not-rested")
+    return found
+
+
+def stopped_and_normal(words: Words, part: History) -> bool:
+    """Every controller's last accepted answer on stopped is ok; where there is a transceiver, it reported normal."""
+    def stopped(controller: int) -> bool:
+        for entry in reversed(part):
+            if entry.sight == ANSWER and entry.accepted and entry.values[:2] == (controller, ControllerMode.STOPPED):
+                return entry.values[2] == 1
+        return False
+
+    normal = any(entry.sight == REPORT and entry.accepted and entry.values[1] == TransceiverMode.NORMAL for entry in part)
+    return all(map(stopped, words.network.controllers)) and (words.network.transceiver is None or normal)
+
+
+def broken_by_start(words: Words, entry: Seen, before: History) -> List[str]:
+    """When controllers are asked to start, and how many records go out."""
+    found = []
+    for controller in words.network.controllers:
+        if entry.hands(Kind.CONTROLLER_MODE, controller, ControllerMode.STARTED):
+            if not (ticked(entry) and words.on(before) and words.wanted(before) != Mode.NO):
+                found.append("start-asked")
+            first = not words.asked_to_start(controller, since(words.shut, before))
+            if first and not stopped_and_normal(words, since(words.tells(Mode.NO), before)):
+                found.append("start-after-stop")
+    most = {TICK: len(words.network.controllers) + 2, BUS_OFF: 3}.get(entry.sight, 0)
+    if len(entry.records) > most:
+        found.append("few-records")
+    return found
+
+
+STATEMENTS = (broken_by_bus_off, broken_by_answer, broken_by_full, broken_by_down, broken_by_start)
+
+
+def broken(network: Settings, history: History) -> Optional[Tuple[int, List[str]]]:
+    """The first entry, by its number from 1, after which some statement is false, with the names of those; None where all hold."""
+    words = Words(network)
+    for place, entry in enumerate(history):
+        names = broken_by_told(words, history[:place + 1])
+        for statement in STATEMENTS:
+            names += statement(words, entry, history[:place])
+        if names:
+            return place + 1, sorted(set(names))
+    return None
