@@ -295,9 +295,9 @@ module _ where
   stopped-while-full t = true≢false (t .full-asks-nothing refl)
 
   -- `starts`: the controller is asked to start before it said that it is stopped
-  pub start-before-stopped : Ticks network (ticks (row 1 3 1 ∷ [])) (lives network stopping) → ⊥
+  pub start-without-stopped : Ticks network (ticks (row 1 3 1 ∷ [])) (lives network stopping) → ⊥
   unfolding computedLife
-  start-before-stopped t = false≢true (t .starts 3 refl .prepared refl .stopped 3 refl)
+  start-without-stopped t = false≢true (t .starts 3 refl .prepared refl .stopped 3 refl)
 
   -- `starts`: the controllers are stopped and started without a word from the transceiver
   pub start-before-normal : Ticks fitted (ticks (row 1 3 1 ∷ row 1 4 1 ∷ [])) (taken (anAnswer 4 0 1) [] ∷ taken (ok 0) [] ∷ ticks
