@@ -2,10 +2,10 @@
 #include "manager.h"
 #include <string.h>
 
-/* N1: the fifteen steps. */
+/* N1: the seventeen steps. */
 enum {
     NO_COMMUNICATION, TRANSCEIVER_NORMAL, CONTROLLERS_STOPPED, CONTROLLERS_STARTED, CHECKING, FULL_STEP, RESTARTING, WAITING, SILENT_STEP,
-    CLEAR_WAKE, DOWN_STOPPED, TRANSCEIVER_STANDBY, CONTROLLERS_SLEEP, CHECK_WAKE, CHECK_WAKE_AGAIN
+    CLEAR_WAKE, DOWN_STOPPED, TRANSCEIVER_STANDBY, CONTROLLERS_SLEEP, CHECK_WAKE, CHECK_WAKE_AGAIN, RESET_STOPPED, RESET_STARTED
 };
 enum { NO, SILENT, FULL };
 enum { ASK_NOTHING, ASK_CONTROLLERS, ASK_TRANSCEIVER, ASK_CLEAR, ASK_CHECK };
@@ -17,10 +17,10 @@ enum { NOT_READY = 1, NO_HANDLE = 3, NO_CONTROLLER, NO_TRANSCEIVER, NOT_UP = 8, 
 /* N1, N10: what each step asks for. */
 static const uint8_t ASKS[] = {
     ASK_NOTHING, ASK_TRANSCEIVER, ASK_CONTROLLERS, ASK_CONTROLLERS, ASK_NOTHING, ASK_NOTHING, ASK_CONTROLLERS, ASK_NOTHING, ASK_NOTHING,
-    ASK_CLEAR, ASK_CONTROLLERS, ASK_TRANSCEIVER, ASK_CONTROLLERS, ASK_CHECK, ASK_CHECK
+    ASK_CLEAR, ASK_CONTROLLERS, ASK_TRANSCEIVER, ASK_CONTROLLERS, ASK_CHECK, ASK_CHECK, ASK_CONTROLLERS, ASK_CONTROLLERS
 };
 /* The mode that a step asks for: of controllers stopped 0, started 1, sleep 2; of the transceiver normal 0, standby 1. */
-static const uint8_t MODES[] = { 0, 0, 0, 1, 0, 0, 1, 0, 0, 0, 0, 1, 2, 0, 0 };
+static const uint8_t MODES[] = { 0, 0, 0, 1, 0, 0, 1, 0, 0, 0, 0, 1, 2, 0, 0, 0, 1 };
 
 struct records {
     uint8_t *out;
@@ -54,8 +54,11 @@ static inline void move(struct network *network, uint8_t step) {
     forget(network);
 }
 
-/* N4: up are steps 4 to 8. */
-static inline int is_up(uint8_t step) { return step >= CHECKING && step <= SILENT_STEP; }
+/* N4: up are steps 4 to 8, 15 and 16. */
+static inline int is_up(uint8_t step) { return (step >= CHECKING && step <= SILENT_STEP) || step >= RESET_STOPPED; }
+
+/* T3: the steps from which a network goes down are those that come up and those that are up. */
+static inline int can_go_down(uint8_t step) { return (step >= TRANSCEIVER_NORMAL && step <= SILENT_STEP) || step >= RESET_STOPPED; }
 
 /* N13: a step is done that has asked, and what it asked for is there. */
 static inline int is_done(const struct network *network) {
@@ -135,7 +138,7 @@ static inline uint16_t delay(const struct network *network) {
 static void tick_network(struct records *to, struct network *network) {
     uint8_t step = network->step;
     /* T3: no is looked at first. */
-    if (network->wanted == NO && step >= TRANSCEIVER_NORMAL && step <= SILENT_STEP) {
+    if (network->wanted == NO && can_go_down(step)) {
         go_down(to, network);
         return;
     }
@@ -204,6 +207,14 @@ static void tick_network(struct records *to, struct network *network) {
         break;
     case CHECK_WAKE: end_down(to, network); break;
     case CHECK_WAKE_AGAIN: go_on(to, network, CLEAR_WAKE); break;
+    /* T29: all controllers are stopped. */
+    case RESET_STOPPED: go_on(to, network, RESET_STARTED); break;
+    /* T30: all controllers run again. */
+    case RESET_STARTED:
+        if (!is_done(network)) ask(to, network);
+        else if (network->wanted == SILENT) enter_silent(to, network);
+        else enter_full(to, network);
+        break;
     }
 }
 
@@ -235,6 +246,20 @@ struct outcome manager_bus_off(struct manager *manager, uint8_t id, uint8_t *out
     } else {
         return (struct outcome){ NOT_TAKEN, 0 };
     }
+    return (struct outcome){ 0, to.count };
+}
+
+/* R7, R9, R10, R21, X1 to X5: the sending of a network has stuck. */
+struct outcome manager_stall(struct manager *manager, uint8_t handle, uint8_t *out, size_t room) {
+    if (!manager->started) return (struct outcome){ NOT_READY, 0 };
+    if (room < STALL_ROOM) return (struct outcome){ TOO_SHORT, 0 };
+    unsigned found = manager->by_handle[handle];
+    if (!found) return (struct outcome){ NO_HANDLE, 0 };
+    struct network *network = &manager->network[found - 1];
+    if (network->step != CHECKING && network->step != FULL_STEP) return (struct outcome){ NOT_TAKEN, 0 };
+    struct records to = { out, 0 };
+    tell(&to, network, SILENT);
+    move(network, RESET_STOPPED);
     return (struct outcome){ 0, to.count };
 }
 

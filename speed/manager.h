@@ -4,7 +4,7 @@
 #include <stddef.h>
 #include <stdint.h>
 
-enum { MOST_NETWORKS = 8, MOST_CONTROLLERS = 4, RECORD = 3, BUS_OFF_ROOM = 9, IDS = 256 };
+enum { MOST_NETWORKS = 8, MOST_CONTROLLERS = 4, RECORD = 3, BUS_OFF_ROOM = 9, STALL_ROOM = 3, IDS = 256 };
 
 struct network {
     /* the settings */
@@ -33,6 +33,7 @@ struct outcome {
 void manager_start(struct manager *manager, const uint8_t *sheet, size_t length);
 struct outcome manager_tick(struct manager *manager, uint8_t *out, size_t room);
 struct outcome manager_bus_off(struct manager *manager, uint8_t id, uint8_t *out, size_t room);
+struct outcome manager_stall(struct manager *manager, uint8_t handle, uint8_t *out, size_t room);
 uint8_t manager_controller_answer(struct manager *manager, uint8_t id, uint8_t mode, uint8_t okay);
 uint8_t manager_transceiver_mode(struct manager *manager, uint8_t id, uint8_t mode);
 uint8_t manager_clear_done(struct manager *manager, uint8_t id);

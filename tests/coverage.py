@@ -3,8 +3,8 @@
 A run of the model is watched on its way; the model stays as it is. What can be reached is worked out from the model's own
 rules, from the start of a network on, so a list of cases can be held against it:
 
-steps         the fifteen steps
-transitions   each step and next step that a tick or a bus-off can make, for each outfit; staying is one too
+steps         the seventeen steps
+transitions   each step and next step that a tick, a bus-off or a stall can make, for each outfit; staying is one too
 decisions     each thing that a tick can find: what the model's `next_step` is given
 answers       each number that reading the sheet or an event can be answered with
 refusals      the refusal numbers among the answers
@@ -37,8 +37,9 @@ EVENT_NAMES = {
     EventTag.CHECK_DONE: "check done",
     EventTag.TICK: "tick",
     EventTag.POLL: "poll",
+    EventTag.STALL: "stall",
 }
-MOVING_EVENTS = (EventTag.TICK, EventTag.BUS_OFF)
+MOVING_EVENTS = (EventTag.TICK, EventTag.BUS_OFF, EventTag.STALL)
 
 
 class Situation(NamedTuple):
@@ -53,7 +54,7 @@ class Situation(NamedTuple):
 
 
 class Transition(NamedTuple):
-    """A tick or a bus-off brings a network of this outfit from a step to a step, perhaps the same."""
+    """A tick, a bus-off or a stall brings a network of this outfit from a step to a step, perhaps the same."""
 
     outfit: int
     cause: int
@@ -84,6 +85,7 @@ POSSIBLE_ANSWERS = {
     EventTag.CHECK_DONE: (model.ACCEPTED, Refusal.UNKNOWN_TRANSCEIVER, Refusal.NOT_TAKEN),
     EventTag.TICK: (model.ACCEPTED,),
     EventTag.POLL: (model.ACCEPTED, Refusal.UNKNOWN_HANDLE),
+    EventTag.STALL: (model.ACCEPTED, Refusal.UNKNOWN_HANDLE, Refusal.NOT_TAKEN),
 }
 
 # The refusal numbers of the rules that the program cannot give, and why.
@@ -119,7 +121,7 @@ class Ending:
     SHEET_REFUSED = "sheet refused"
     HEADER_CUT = "stop, header cut"
     TAG_BELOW = "stop, tag below 10"
-    TAG_UNKNOWN = "stop, tag above 17"
+    TAG_UNKNOWN = "stop, tag above 18"
     LENGTH_ABOVE = "stop, length above that of the tag"
     LENGTH_BELOW = "stop, length below that of the tag"
     VALUE_CUT = "stop, value cut"
@@ -133,7 +135,7 @@ def contradiction(situation: Situation) -> str:
     """Why no record of a network is as this situation says, whatever its outfit; empty where one can be."""
     step = situation.step
     if situation.wanted == Mode.SILENT and step not in model.UP_STEPS:
-        return "silent is wanted in steps 4 to 8 only (refusal 08, and wanted no goes before a shutdown)"
+        return "silent is wanted only while a network is up (refusal 08, and wanted no goes before a shutdown)"
     if situation.done and step not in model.ASKING_STEPS:
         return "a step that asks nothing is not done"
     if situation.refusal_present and step not in model.CONTROLLER_MODE_OF_STEP:
@@ -160,6 +162,14 @@ def bus_off_transitions(outfit: int, step: int) -> Iterator[Transition]:
         yield Transition(outfit, EventTag.BUS_OFF, step, network.step)
 
 
+def stall_transitions(outfit: int, step: int) -> Iterator[Transition]:
+    """Where a stall takes a network of this outfit from this step; nothing where it is refused."""
+    network = model.NetworkRecord(example_settings(outfit), step, [None])
+    if model.takes_stall(network):
+        model.stall_network(network)
+        yield Transition(outfit, EventTag.STALL, step, network.step)
+
+
 @lru_cache(maxsize=None)
 def sound_situations() -> Tuple[Situation, ...]:
     """All situations without a contradiction in themselves."""
@@ -175,8 +185,8 @@ def tick_transitions(outfit: int, step: int) -> Iterator[Transition]:
 
 
 def transitions_from(outfit: int, step: int) -> Set[Transition]:
-    """Where a tick or a bus-off can take a network of this outfit from this step."""
-    return {*tick_transitions(outfit, step), *bus_off_transitions(outfit, step)}
+    """Where a tick, a bus-off or a stall can take a network of this outfit from this step."""
+    return {*tick_transitions(outfit, step), *bus_off_transitions(outfit, step), *stall_transitions(outfit, step)}
 
 
 @lru_cache(maxsize=None)
@@ -283,7 +293,7 @@ class Reached:
             self.times["refusals"][answer] += 1
 
     def note_transition(self, cause: int, found: Situation, next_step: int) -> None:
-        """A tick or a bus-off found a network so and left it in the next step."""
+        """A tick, a bus-off or a stall found a network so and left it in the next step."""
         self.times["transitions"][Transition(found.outfit, cause, found.step, next_step)] += 1
         self.times["steps"][next_step] += 1
         if cause == EventTag.TICK:
@@ -304,10 +314,11 @@ class Reached:
 
 
 def moved_networks(manager: model.Manager, tag: int, value: bytes) -> List[model.NetworkRecord]:
-    """The networks whose step this event may change: all at a tick, that of the controller at a bus-off."""
+    """The networks whose step this event may change: all at a tick, that of the controller at a bus-off, of the handle at a stall."""
     if tag == EventTag.TICK:
         return manager.networks
-    network = manager.network_of_controller(value[0])
+    named = manager.network_of_controller if tag == EventTag.BUS_OFF else manager.network_of_handle
+    network = named(value[0])
     return [] if network is None else [network]
 
 
@@ -462,7 +473,7 @@ def table(reached: Reached) -> List[str]:
     """The whole table: the summary, and how often each thing was reached."""
     steps, records, endings = (reached.times[name] for name in ("steps", "records", "endings"))
     lines = ["reached, of all that the program can reach:", *summary(reached)]
-    lines.append("steps: times that a tick or a bus-off ended there")
+    lines.append("steps: times that a tick, a bus-off or a stall ended there")
     lines += rows(f"{step}: {steps[step]}" for step in sorted(possible()["steps"]))
     lines += transition_rows(reached)
     lines += answer_rows(reached)

@@ -126,7 +126,7 @@ def sheet_cases() -> Iterator[Case]:
 
 # Fields that the program stops at wherever they stand, in hexadecimal.
 BAD_EVENTS = [
-    ("tag 18", "180000"),
+    ("stall of length 0", "180000"),
     ("tag ff", "ff0000"),
     ("request of length 1", "10000107"),
     ("bus-off of length 0", "110000"),
@@ -174,7 +174,23 @@ CUT_LATER_EVENTS = [
     ("a check done without its transceiver", "150001"),
     ("a poll without its handle", "170001"),
     ("tag 09, cut", "0900"),
-    ("tag 18 and a length that overruns", "180002aa"),
+    ("a stall of length 2, which overruns", "180002aa"),
+]
+
+# Fields about a stall, and those of the tags behind it.
+BAD_STALLS = [
+    ("stall of length 2", "1800020707"),
+    ("stall of length 257", "180101" + "07" * 257),
+    ("stall of length 65,535, which overruns", "18ffff07"),
+    ("tag 19", "190000"),
+    ("tag 19 of length 1", "19000107"),
+    ("tag 1f", "1f000107"),
+]
+CUT_STALLS = [
+    ("a lone 18", "18"),
+    ("a stall with half a length", "1800"),
+    ("a stall without its handle", "180001"),
+    ("a lone 19", "19"),
 ]
 
 
@@ -188,8 +204,23 @@ def event_cases() -> Iterator[Case]:
         yield Case(f"sixth event: {words}", SHEET + SOME_EVENTS + bytes.fromhex(bad) + TICK, "stop 46")
     for words, bad in CUT_LATER_EVENTS:
         yield Case(f"sixth event: {words}", SHEET + SOME_EVENTS + bytes.fromhex(bad), "stop 46")
-    yield Case("tag 18 after the largest sheet", LARGEST_SHEET + bytes.fromhex("180000"), "stop 328")
+    yield Case("stall of length 0 after the largest sheet", LARGEST_SHEET + bytes.fromhex("180000"), "stop 328")
     yield Case("a lone 16 after 300 ticks", SHEET + TICK * 300 + b"\x16", "stop 925")
+
+
+def bad_stall_cases() -> Iterator[Case]:
+    """Stops at fields about a stall, first and after events; a good stall before a bad one is run."""
+    for words, bad in BAD_STALLS:
+        yield Case(f"first event: {words}", SHEET + bytes.fromhex(bad) + TICK, "stop 25")
+        yield Case(f"sixth event: {words}", SHEET + SOME_EVENTS + bytes.fromhex(bad) + TICK, "stop 46")
+    for words, bad in CUT_STALLS:
+        yield Case(f"first event: {words}", SHEET + bytes.fromhex(bad), "stop 25")
+        yield Case(f"sixth event: {words}", SHEET + SOME_EVENTS + bytes.fromhex(bad), "stop 46")
+    yield Case("sixth event: stall of length 0", SHEET + SOME_EVENTS + bytes.fromhex("180000") + TICK, "stop 46")
+    yield Case("no sheet: a stall first", bytes.fromhex("18000107"), "config 56 0")
+    yield Case("no sheet: a lone 18 first", bytes.fromhex("18"), "config 56 0")
+    yield Case("a stall before the first tick", SHEET + bytes.fromhex("18000107"), "1 34")
+    yield Case("a stall, then one that is cut", SHEET + bytes.fromhex("18000107 180001"), "stop 29")
 
 
 # ---------------------------------------------------------------------------

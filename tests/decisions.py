@@ -1,5 +1,5 @@
 #!/usr/bin/env python3
-"""Writes the expected output of the program `decisions`: all 1,080 decisions of the tick, by the model of the rules.
+"""Writes the expected output of the program `decisions`: all 1,224 decisions of the tick, by the model of the rules.
 
 A line for each step: the step, then its 72 next steps. The choices vary in the order that the program's own first lines name.
 Without arguments it writes `crates/decisions/stdout`; with --check it compares, says what differs, and exits 1 if anything does.

@@ -19,7 +19,7 @@ RECORDS_ROOM = 144
 SHEET_ROOM = 336
 AFTER = 2
 # An unknown call ends the program: the one after it gives no line.
-ENDING = bytes([0x0C, 0x00])
+ENDING = bytes([0x0D, 0x00])
 
 CODES = {
     "new": 0x00,
@@ -34,6 +34,7 @@ CODES = {
     "check": 0x09,
     "tick": 0x0A,
     "poll": 0x0B,
+    "stall": 0x0C,
 }
 
 # ---------------------------------------------------------------------------
@@ -91,6 +92,9 @@ CHECKED = ticks(3)
 # From a bus-off to waiting with TX offline.
 RESTARTED = [TICK, *answers([3], 1), TICK]
 BUS_OFF = ("bus-off", 3, RECORDS_ROOM)
+# From a stall to full, told on the last tick.
+STALL = ("stall", 7, RECORDS_ROOM)
+RESET = [TICK, *answers([3], 0), TICK, *answers([3], 1), TICK]
 
 # ---------------------------------------------------------------------------
 # Cases
@@ -241,9 +245,104 @@ TWO_NETWORKS = [
     [("new",), ("poll", 255), ("write", SHEET_ROOM)],
 ]
 
+STALLS = [
+    # Before reading and before the start: 01, also where other refusals would apply.
+    [("new",), ("stall", 99, 0), ("stall", 7, 3), ("read", SHEET), ("stall", 99, 0), ("stall", 7, 2), ("stall", 7, 3)],
+    # 20 before 03 before 22; a controller's id is no handle.
+    [
+        *begun(SHEET), ("stall", 99, 0), ("stall", 99, 2), ("stall", 7, 2), ("stall", 99, 3), ("stall", 3, 3),
+        ("stall", 7, 3), ("stall", 7, 255),
+    ],
+    # In every step: going down, with partial networking; sleep is refused once, so 14 and 9 come before 13.
+    [
+        *begun(PARTIAL), ("stall", 20, 2), ("stall", 20, 3), TICK, ("stall", 20, 3), ("clear", 5), TICK, ("stall", 20, 3),
+        *answers([30, 1], 0), TICK, ("stall", 20, 3), ("transceiver", 5, 1), TICK, ("stall", 20, 3), *answers([30, 1], 2, 0),
+        TICK, ("stall", 20, 3), ("check", 5), TICK, ("stall", 20, 3), ("clear", 5), TICK, *answers([30, 1], 0), TICK,
+        ("transceiver", 5, 1), TICK, *answers([30, 1], 2), TICK, ("stall", 20, 3), ("check", 5), TICK, ("stall", 20, 3),
+        # Coming up; the first that is taken is in step 4.
+        ("request", 20, 2), TICK, ("stall", 20, 3), ("transceiver", 5, 0), TICK, ("stall", 20, 3), *answers([30, 1], 0), TICK,
+        ("stall", 20, 3), *answers([30, 1], 1), TICK, ("poll", 20), ("stall", 20, 0), ("stall", 20, 2), ("poll", 20),
+        ("stall", 20, 3), ("poll", 20),
+        # In 15 before it has asked and after it, and in 16; then full again, passed, and the next one in step 5.
+        ("stall", 20, 3), ("transceiver", 5, 0), ("clear", 5), ("check", 5), TICK, ("stall", 20, 2), ("stall", 20, 3),
+        ("transceiver", 5, 1), *answers([1], 0), TICK, *answers([30], 0), TICK, ("stall", 20, 3), ("transceiver", 5, 0),
+        ("check", 5), *answers([1, 30], 1), TICK, ("poll", 20), *ticks(2), ("stall", 20, RECORDS_ROOM), ("poll", 20), TICK,
+        *answers([30, 1], 0), TICK, *answers([30, 1], 1), TICK, ("poll", 20),
+        # In 6 before it has asked and after it, in 7 and in 8; back in step 4 it is taken.
+        ("bus-off", 1, 9), ("stall", 20, 3), TICK, ("stall", 20, 3), *answers([30, 1], 1), TICK, ("stall", 20, 3), *ticks(2),
+        ("request", 20, 1), TICK, ("stall", 20, 3), ("request", 20, 2), TICK, ("stall", 20, 255),
+        # No is wanted, and it goes down from 15 though nothing was asked there.
+        ("request", 20, 0), TICK, ("stall", 20, 3), ("poll", 20), ("clear", 5), TICK,
+    ],
+    # Lent buffers: what is too short changes nothing and leaves every byte; of more bytes those behind the record stay.
+    [
+        *begun(SHEET), *DOWN, *UP, ("stall", 7, 0), ("stall", 7, 1), ("stall", 7, 2), ("poll", 7), ("stall", 7, 3), ("poll", 7),
+        *RESET, ("stall", 7, 4), *RESET, ("stall", 7, 5), *RESET, ("stall", 7, 9), *RESET, ("stall", 7, 143), *RESET,
+        ("stall", 7, 144), *RESET, ("stall", 7, 255), *RESET, ("poll", 7),
+    ],
+    # In step 5: full is told on the third tick, and passed comes again three ticks later; a tick with 8 bytes is none.
+    [
+        *begun(SHEET), *DOWN, *UP, *CHECKED, STALL, ("poll", 7), ("tick", 8), ("tick", 9), *answers([3], 0), ("tick", 8),
+        ("tick", 9), *answers([3], 1), ("tick", 8), ("tick", 9), ("poll", 7), ("tick", 9), ("tick", 8), ("tick", 9), ("tick", 9),
+    ],
+    # Answers from before it are refused, and do not count afterwards; a refusal makes the step ask again.
+    [
+        *begun(SHEET), *DOWN, *UP, STALL, *answers([3], 0), *answers([3], 1), *answers([3], 2), TICK, TICK, *answers([3], 1),
+        *answers([3], 2), *answers([3], 0, 0), TICK, *answers([3], 0), *answers([3], 0, 0), TICK, *answers([3], 0, 2),
+        *answers([3], 0), TICK, *answers([3], 0), *answers([3], 1, 0), TICK, *answers([3], 1), ("answer", 7, 1, 1), TICK,
+        *answers([3], 1), *CHECKED,
+    ],
+    # The count stays: after one bus-off and a stall the next bus-off brings the long delay.
+    [
+        *begun(SHEET), *DOWN, *UP, BUS_OFF, *RESTARTED, *ticks(2), STALL, *RESET, BUS_OFF, *RESTARTED, *ticks(4), ("poll", 7),
+        TICK, ("poll", 7),
+    ],
+    # It is not counted: a bus-off after three of them brings the short delay; passed clears the count as ever.
+    [
+        *begun(SHEET), *DOWN, *UP, STALL, *RESET, STALL, *RESET, STALL, *RESET, BUS_OFF, *RESTARTED, TICK, ("poll", 7), TICK,
+        ("poll", 7), STALL, *RESET, *CHECKED, BUS_OFF, *RESTARTED, *ticks(2), ("poll", 7),
+    ],
+    # Bus-offs in 15, before it has asked and after it, and in 16: taken and counted. Too few bytes: 20, and nothing happened.
+    [
+        *begun(SHEET), *DOWN, *UP, STALL, ("bus-off", 3, 8), ("bus-off", 99, 9), ("bus-off", 3, 9), *answers([3], 0), *RESTARTED,
+        *ticks(2), STALL, TICK, *answers([3], 0), BUS_OFF, *answers([3], 0), *answers([3], 1), *RESTARTED, *ticks(5), STALL, TICK,
+        *answers([3], 0), TICK, *answers([3], 1), ("bus-off", 3, 8), BUS_OFF, ("poll", 7), *answers([3], 1), *RESTARTED,
+        *ticks(5), ("poll", 7),
+    ],
+    # Silent asked for in 15 and in 16: when the controllers run the network is silent, and full when that is wanted again.
+    [
+        *begun(SHEET), *DOWN, *UP, STALL, ("request", 7, 1), *RESET, ("poll", 7), STALL, ("request", 7, 2), TICK, STALL, TICK,
+        *answers([3], 0), TICK, ("request", 7, 3), ("request", 7, 1), *answers([3], 1), TICK, STALL, ("request", 7, 2), TICK,
+        # Silent was wanted before the stall, and is wanted no more in 16.
+        ("request", 7, 1), STALL, TICK, *answers([3], 0), TICK, ("request", 7, 2), *answers([3], 1), TICK, ("poll", 7),
+    ],
+    # No wanted before the stall, in 15 and in 16, with all answers there: it goes down, and silent is not told a second time.
+    [
+        *begun(SHEET), *DOWN, *UP, ("request", 7, 0), STALL, TICK, STALL, *answers([3], 0), TICK, *answers([3], 2), TICK, *UP,
+        STALL, TICK, *answers([3], 0), ("request", 7, 0), TICK, *answers([3], 0), TICK, *answers([3], 2), TICK, *UP, STALL, TICK,
+        *answers([3], 0), TICK, *answers([3], 1), ("request", 7, 0), ("poll", 7), TICK, ("request", 7, 1), ("poll", 7),
+    ],
+    # With a transceiver alone: a reset leaves the transceiver as it is.
+    [
+        *begun(WITH_TRANSCEIVER), TICK, *answers([4], 0), TICK, *answers([4], 2), TICK, ("transceiver", 6, 1), ("request", 9, 2),
+        *ticks(2), ("transceiver", 6, 0), TICK, *answers([4], 0), TICK, *answers([4], 1), TICK, ("stall", 6, 3), ("stall", 4, 3),
+        ("stall", 9, 3), TICK, ("transceiver", 6, 0), *answers([4], 0), TICK, ("transceiver", 6, 1), *answers([4], 1), TICK, TICK,
+    ],
+    # Two networks of two controllers each: each is stalled while the other is full, then both at once.
+    [
+        *begun(PAIR), TICK, *answers([10, 11, 12, 0], 0), TICK, *answers([10, 11, 12, 0], 2), TICK, ("request", 1, 2),
+        ("request", 2, 2), ("transceiver", 3, 1), TICK, *answers([10, 11], 0), TICK, *answers([11, 10], 1), ("transceiver", 3, 0),
+        TICK, *answers([12, 0], 0), TICK, *answers([12, 0], 1), TICK, ("stall", 2, 3), ("poll", 1), ("poll", 2), TICK,
+        ("stall", 12, 3), *answers([12], 0), ("tick", 23), ("tick", 24), *answers([0], 0), TICK, *answers([0, 12], 1), TICK,
+        ("poll", 1), ("poll", 2), ("stall", 1, 3), TICK, *answers([10, 11], 0), ("stall", 2, 3), ("stall", 1, 3), TICK,
+        *answers([10, 11], 1), *answers([12, 0], 0), TICK, ("poll", 1), ("poll", 2), *answers([12, 0], 1), ("bus-off", 0, 9),
+        *answers([12, 0], 1), TICK, *answers([12, 0], 1), ("stall", 1, 3), ("stall", 2, 3), TICK, ("poll", 1), ("poll", 2),
+    ],
+]
+
 CALLS = [
     call
-    for cases in (WHOLE_CASE, BENCH_CASES, REFUSALS, PARTIAL_NETWORKING, TWO_NETWORKS)
+    for cases in (WHOLE_CASE, BENCH_CASES, REFUSALS, PARTIAL_NETWORKING, TWO_NETWORKS, STALLS)
     for case in cases
     for call in case
 ]
@@ -266,7 +365,7 @@ def call_bytes(call):
 def outcome_of(manager, call):
     """What a call gives, by the model."""
     name, *arguments = call
-    if name in ("write", "bus-off", "tick"):
+    if room_of(name):
         *arguments, length = arguments
         arguments.append(min(length, room_of(name)))
     calls = {
@@ -281,13 +380,14 @@ def outcome_of(manager, call):
         "check": manager.check_done,
         "tick": manager.tick,
         "poll": manager.poll,
+        "stall": manager.stall,
     }
     return calls[name](*arguments)
 
 
 def room_of(name):
     """The size of the buffer of which a part is lent; 0 for a call that takes none."""
-    return {"write": SHEET_ROOM, "bus-off": RECORDS_ROOM, "tick": RECORDS_ROOM}.get(name, 0)
+    return {"write": SHEET_ROOM, "bus-off": RECORDS_ROOM, "tick": RECORDS_ROOM, "stall": RECORDS_ROOM}.get(name, 0)
 
 
 def shown_buffer(name, outcome):

@@ -37,7 +37,7 @@ class Refusal:
     BUFFER_TOO_SHORT = 0x20
     # R13: there is no such mode or ok value
     VALUE_OUT_OF_RANGE = 0x21
-    # R15: the step does not take the answer, the report or the bus-off
+    # R15: the step does not take the answer, the report, the bus-off or the stall
     NOT_TAKEN = 0x22
     # S15, S18, S26: the bytes end too early
     SHEET_CUT = 0x30
@@ -128,7 +128,7 @@ class EventManagerNotice:
 class Step:
     """The steps that a network can be in."""
 
-    # N1: the fifteen steps
+    # N1: the seventeen steps
     NO_COMMUNICATION = 0
     TRANSCEIVER_NORMAL = 1
     CONTROLLERS_STOPPED = 2
@@ -144,6 +144,8 @@ class Step:
     CONTROLLERS_SLEEP = 12
     CHECK_WAKE = 13
     CHECK_WAKE_AGAIN = 14
+    RESET_STOPPED = 15
+    RESET_STARTED = 16
 
 
 class Outfit:
@@ -172,7 +174,7 @@ class EventTag:
 
     # C3: the lowest tag of an event
     FIRST = 0x10
-    # C7 to C14: a tag for each event
+    # C7 to C14, C22: a tag for each event
     REQUEST = 0x10
     BUS_OFF = 0x11
     CONTROLLER_ANSWER = 0x12
@@ -181,6 +183,7 @@ class EventTag:
     CHECK_DONE = 0x15
     TICK = 0x16
     POLL = 0x17
+    STALL = 0x18
 
 
 class Limit:
@@ -204,6 +207,8 @@ class Limit:
     RECORD_BYTES = 3
     # R17: what a bus-off needs, in every step
     BUS_OFF_BYTES = 9
+    # R21: what a stall needs, in every step
+    STALL_BYTES = 3
     # C1: what the program reads at most
     PROGRAM_INPUT_BYTES = 65536
     # C5: what the program lends each call
@@ -231,7 +236,7 @@ ALLOWED_AFTER = {
     Tag.PARTIAL_NETWORKING: (Tag.HANDLE,),
 }
 
-# C7 to C14: how many bytes the value of each event has
+# C7 to C14, C22: how many bytes the value of each event has
 LENGTH_OF_EVENT = {
     EventTag.REQUEST: 2,
     EventTag.BUS_OFF: 1,
@@ -241,6 +246,7 @@ LENGTH_OF_EVENT = {
     EventTag.CHECK_DONE: 1,
     EventTag.TICK: 0,
     EventTag.POLL: 1,
+    EventTag.STALL: 1,
 }
 
 # N1: the mode that a step asks the controllers for
@@ -250,6 +256,8 @@ CONTROLLER_MODE_OF_STEP = {
     Step.RESTARTING: ControllerMode.STARTED,
     Step.DOWN_STOPPED: ControllerMode.STOPPED,
     Step.CONTROLLERS_SLEEP: ControllerMode.SLEEP,
+    Step.RESET_STOPPED: ControllerMode.STOPPED,
+    Step.RESET_STARTED: ControllerMode.STARTED,
 }
 
 # N1: the mode that a step asks the transceiver for
@@ -263,13 +271,15 @@ CLEAR_STEPS = (Step.CLEAR_WAKE,)
 CHECK_STEPS = (Step.CHECK_WAKE, Step.CHECK_WAKE_AGAIN)
 # N2: the steps that have a number of ticks with them
 TIMED_STEPS = (Step.CHECKING, Step.WAITING)
-ALL_STEPS = range(15)
+ALL_STEPS = range(17)
 ALL_OUTFITS = (Outfit.NO_TRANSCEIVER, Outfit.TRANSCEIVER, Outfit.PARTIAL_NETWORKING)
 # N10: the steps that ask
-ASKING_STEPS = (1, 2, 3, 6, 9, 10, 11, 12, 13, 14)
+ASKING_STEPS = (1, 2, 3, 6, 9, 10, 11, 12, 13, 14, 15, 16)
 COMING_UP_STEPS = (1, 2, 3)
 # N4: the steps in which a network is up
-UP_STEPS = (4, 5, 6, 7, 8)
+UP_STEPS = (4, 5, 6, 7, 8, 15, 16)
+# X2: the steps that take a stall
+STALL_STEPS = (4, 5)
 
 # H1: kind, target, argument
 Record = Tuple[int, int, int]
@@ -540,8 +550,19 @@ def next_step_waiting(wanted: int, reached: bool) -> int:
     return Step.SILENT
 
 
+def next_step_resetting(step: int, wanted: int, done: bool) -> int:
+    """The step after a tick in step 15 or 16."""
+    if not done:
+        return step
+    # T29: the controllers are stopped, and are to start again
+    if step == Step.RESET_STOPPED:
+        return Step.RESET_STARTED
+    # T30: the controllers run again: full, or silent where that is wanted
+    return Step.SILENT if wanted == Mode.SILENT else Step.CHECKING
+
+
 def next_step_up(step: int, wanted: int, done: bool, reached: bool) -> int:
-    """The step after a tick in one of the steps 4 to 8."""
+    """The step after a tick in one of the steps in which a network is up."""
     if step in (Step.CHECKING, Step.FULL):
         return next_step_full(step, wanted, reached)
     # T11: the controllers run again, and the wait begins
@@ -549,12 +570,14 @@ def next_step_up(step: int, wanted: int, done: bool, reached: bool) -> int:
         return Step.WAITING if done else step
     if step == Step.WAITING:
         return next_step_waiting(wanted, reached)
+    if step in (Step.RESET_STOPPED, Step.RESET_STARTED):
+        return next_step_resetting(step, wanted, done)
     # T14: from silent back to full
     return Step.CHECKING if wanted == Mode.FULL else step
 
 
 def next_step_down(step: int, done: bool, outfit: int) -> int:
-    """The step after a tick in a step from 9 on, without partial networking.
+    """The step after a tick in one of the steps 9 to 14, without partial networking.
 
     The steps 9, 13 and 14 do not occur there; they stay.
     """
@@ -573,7 +596,7 @@ def next_step_down(step: int, done: bool, outfit: int) -> int:
 
 
 def next_step_down_partial(step: int, done: bool, refusal_present: bool) -> int:
-    """The step after a tick in a step from 9 on, with partial networking."""
+    """The step after a tick in one of the steps 9 to 14, with partial networking."""
     # T19: some controller refuses to sleep
     if step == Step.CONTROLLERS_SLEEP and refusal_present:
         return Step.CHECK_WAKE_AGAIN
@@ -620,7 +643,7 @@ def situations() -> Iterator[Tuple[int, int, bool, bool, bool, int]]:
 
 
 def decisions() -> Iterator[int]:
-    """All 1,080 next steps, in the order of `situations`."""
+    """All 1,224 next steps, in the order of `situations`."""
     for situation in situations():
         yield next_step(*situation)
 
@@ -817,7 +840,7 @@ def move_to(network: NetworkRecord, step: int) -> List[Record]:
         return begin_waiting(network)
     if step == Step.SILENT:
         return enter_silent(network)
-    # T26: a shutdown begins from the steps 1 to 8 alone, and not on the way from 14 to 9
+    # T26: a shutdown begins from a step that comes up or is up, and not on the way from 14 to 9
     if network.step in COMING_UP_STEPS + UP_STEPS and network.wanted == Mode.NO:
         return go_down(network, step)
     return enter_asking_step(network, step)
@@ -868,8 +891,22 @@ def bus_off_network(network: NetworkRecord) -> List[Record]:
 
 def takes_bus_off(network: NetworkRecord) -> bool:
     """Whether the step takes a bus-off."""
-    # B6: the steps 3 to 8 alone
+    # B6: step 3 and the steps in which the network is up, and no other
     return network.step in UP_STEPS or network.step == Step.CONTROLLERS_STARTED
+
+
+def stall_network(network: NetworkRecord) -> List[Record]:
+    """What a stall does to a network in a step that takes it."""
+    # X3, X4: step 15, which has not asked; the count of bus-offs and the wanted mode stay
+    set_step(network, Step.RESET_STOPPED)
+    # X2: the communication manager is told silent, and nobody else is told anything
+    return tell_communication_manager(network, Mode.SILENT)
+
+
+def takes_stall(network: NetworkRecord) -> bool:
+    """Whether the step takes a stall."""
+    # X2, X5: the steps 4 and 5 alone
+    return network.step in STALL_STEPS
 
 
 def takes_controller_answer(network: NetworkRecord, mode: int) -> bool:
@@ -905,8 +942,8 @@ def takes_check_done(network: NetworkRecord) -> bool:
 class Outcome:
     """What a call gives back; what does not apply to the call is 0 or empty.
 
-    The count is the number of records of a tick or a bus-off, the number of networks of a reading,
-    the sheet's length of a writing.
+    The count is the number of records of a tick, a bus-off or a stall, the number of networks of a
+    reading, the sheet's length of a writing.
     """
 
     answer: int
@@ -1058,6 +1095,23 @@ class Manager:
             return refused(Refusal.NOT_TAKEN)
         return accepted_with_records(bus_off_network(network))
 
+    def stall(self, handle: int, lent_length: int) -> Outcome:
+        """The sending of the network with this handle has stuck."""
+        # R7: the manager was not started
+        if not self.is_started():
+            return refused(Refusal.NOT_READY)
+        # R9, R21: it needs 3 bytes in every step
+        if lent_length < Limit.STALL_BYTES:
+            return refused(Refusal.BUFFER_TOO_SHORT)
+        # X1, R10: it concerns the network that has the handle, and there may be none
+        network = self.network_of_handle(handle)
+        if network is None:
+            return refused(Refusal.UNKNOWN_HANDLE)
+        # X5, R15: the step does not take it
+        if not takes_stall(network):
+            return refused(Refusal.NOT_TAKEN)
+        return accepted_with_records(stall_network(network))
+
     def controller_answer(self, controller: int, mode: int, ok: int) -> Outcome:
         """The answer of a controller to the request for a mode."""
         # R7: the manager was not started
@@ -1208,6 +1262,9 @@ def run_event(manager: Manager, tag: int, value: bytes) -> Outcome:
     # C5, C13: no value
     if tag == EventTag.TICK:
         return manager.tick(Limit.PROGRAM_BUFFER_BYTES)
+    # C5, C22: a handle
+    if tag == EventTag.STALL:
+        return manager.stall(value[0], Limit.PROGRAM_BUFFER_BYTES)
     # C14: a handle
     return manager.poll(value[0])
 

@@ -8,7 +8,7 @@ from typing import Iterator, List, Tuple
 import coverage
 import model
 from model import ControllerMode, EventTag, Limit, Mode, Outfit, Step
-from traces import BENCH_NETWORK, FULL_STEPS, LARGEST, NOT_OK, OF_OUTFIT, OK, SHEET, TICK, WHOLE_CASE
+from traces import BENCH_NETWORK, FULL_STEPS, LARGEST, NOT_OK, OF_OUTFIT, OK, RESET_STEPS, SHEET, TICK, WHOLE_CASE
 from traces import Case, Trace, answer_to, arrange, network
 
 UNKNOWN_ID = 99
@@ -105,10 +105,15 @@ def ticks_in_step(outfit: int, step: int) -> bytes:
     return trace.recorded()
 
 
+def steps_without_a_stall(outfit: int) -> List[int]:
+    """The steps that a network of this outfit can come to while its sending never sticks."""
+    return sorted(coverage.reachable_steps(outfit) - set(RESET_STEPS))
+
+
 def tick_cases() -> Iterator[Case]:
-    """Every transition that a tick can make is among them, and every way to stay."""
+    """Every transition that a tick can make is among them and among `reset_cases`, and every way to stay."""
     for outfit, name in coverage.OUTFIT_NAMES.items():
-        for step in sorted(coverage.reachable_steps(outfit)):
+        for step in steps_without_a_stall(outfit):
             yield Case(f"{name}, ticks in step {step}", ticks_in_step(outfit, step))
 
 
@@ -150,7 +155,7 @@ def every_report(trace: Trace) -> None:
 
 
 def calls_in_step(outfit: int, step: int) -> bytes:
-    """Every event with known and unknown ids, then a tick; in the step again a bus-off, and ticks after it."""
+    """Every event but a stall with known and unknown ids, then a tick; in the step again a bus-off, and ticks after it."""
     trace = Trace(OF_OUTFIT[outfit])
     trace.go_to(step)
     trace.poll()
@@ -169,13 +174,13 @@ def calls_in_step(outfit: int, step: int) -> bytes:
 
 
 def call_cases() -> Iterator[Case]:
-    """A bus-off in each step is among them, and every number that an event can be answered with.
+    """A bus-off in each step is among them and `reset_cases`, and every number that an event but a stall can be answered with.
 
     01, 0B and 20 cannot occur in the program: it reads one sheet, starts once, makes its calls on a started manager, and
     lends 144 bytes, which is room for any call.
     """
     for outfit, name in coverage.OUTFIT_NAMES.items():
-        for step in sorted(coverage.reachable_steps(outfit)):
+        for step in steps_without_a_stall(outfit):
             yield Case(f"{name}, every call in step {step}", calls_in_step(outfit, step))
 
 
@@ -656,3 +661,313 @@ def network_cases() -> Iterator[Case]:
     yield Case("eight networks, the last is answered", only_one_is_answered(7, *LARGEST))
     yield Case("the largest ticks", largest_ticks())
     yield Case("the largest sheet alone", model.write_sheet(LARGEST), "config 0 8")
+
+
+# ---------------------------------------------------------------------------
+# Stalls, and the resets that they bring
+# ---------------------------------------------------------------------------
+
+
+def reset_cases() -> Iterator[Case]:
+    """Ticks and every call in the two steps of a reset, as `tick_cases` and `call_cases` have them of the others."""
+    for outfit, name in coverage.OUTFIT_NAMES.items():
+        for step in RESET_STEPS:
+            yield Case(f"{name}, ticks in step {step}", ticks_in_step(outfit, step))
+            yield Case(f"{name}, every call in step {step}", calls_in_step(outfit, step))
+
+
+def stall_in_step(outfit: int, step: int) -> bytes:
+    """Stalls of an unknown handle, of an id that is no handle, and of the network; ticks after them, and a stall once more."""
+    trace = Trace(OF_OUTFIT[outfit])
+    trace.go_to(step)
+    trace.event(EventTag.STALL, UNKNOWN_ID)
+    trace.event(EventTag.STALL, trace.controllers()[0])
+    trace.poll()
+    trace.stall()
+    trace.poll()
+    trace.stall()
+    trace.tick()
+    trace.stall()
+    trace.replied_tick(3)
+    trace.stall()
+    trace.poll()
+    return trace.recorded()
+
+
+def reset(trace: Trace) -> None:
+    """A stall in full, and three replied ticks, with which the network is full again."""
+    trace.stall()
+    trace.replied_tick(3)
+    trace.poll()
+
+
+def full_on_the_third_tick(step: int) -> bytes:
+    """A stall in this step, and three ticks later the network is full; it is not with the second."""
+    trace = Trace(BENCH_NETWORK)
+    trace.go_to(step)
+    trace.stall()
+    trace.poll()
+    trace.replied_tick(2)
+    trace.poll()
+    trace.replied_tick()
+    trace.poll()
+    return trace.recorded()
+
+
+def passed_comes_again() -> bytes:
+    """After a stall in step 5 passed comes with the third tick after full was told again."""
+    trace = Trace(BENCH_NETWORK)
+    trace.go_to(Step.FULL)
+    reset(trace)
+    trace.tick(3)
+    return trace.recorded()
+
+
+def stall_at_each_tick_of_checking() -> bytes:
+    """Stalls in step 4 at each number of its ticks; the ensure time begins anew each time."""
+    trace = Trace(network(7, [3], times=(2, 5, 4)))
+    trace.go_to(Step.CHECKING)
+    for ticks in range(4):
+        trace.tick(ticks)
+        reset(trace)
+    trace.tick(4)
+    return trace.recorded()
+
+
+def answers_before_the_request() -> bytes:
+    """Answers of every mode after the stall and before the next tick are refused, and do not count afterwards."""
+    trace = Trace(BENCH_NETWORK)
+    trace.go_to(Step.CHECKING)
+    trace.stall()
+    for mode in (ControllerMode.STOPPED, ControllerMode.STARTED, ControllerMode.SLEEP):
+        trace.event(EventTag.CONTROLLER_ANSWER, 3, mode, OK)
+    trace.tick(2)
+    trace.event(EventTag.CONTROLLER_ANSWER, 3, ControllerMode.STARTED, OK)
+    trace.tick()
+    trace.replied_tick()
+    trace.event(EventTag.CONTROLLER_ANSWER, 3, ControllerMode.STOPPED, OK)
+    trace.tick()
+    trace.replied_tick()
+    return trace.recorded()
+
+
+def late_answers_in_a_reset() -> bytes:
+    """Four controllers answer one at a tick and not in order; two refuse first; what is answered stays."""
+    trace = Trace(network(7, [9, 2, 25, 14]))
+    trace.go_to(Step.FULL)
+    trace.stall()
+    trace.tick()
+    while trace.network().step in RESET_STEPS:
+        requests = trace.open_requests
+        for place in (3, 1):
+            trace.event(*answer_to(requests[place], NOT_OK))
+        for place in (2, 3, 0, 1):
+            trace.event(*answer_to(requests[place]))
+            trace.tick()
+    trace.poll()
+    return trace.recorded()
+
+
+def count_through_a_stall() -> bytes:
+    """A stall between two bus-offs keeps the count: the second bus-off has the long delay."""
+    trace = Trace(BENCH_NETWORK)
+    trace.go_to(Step.FULL)
+    trace.bus_off()
+    recover(trace)
+    reset(trace)
+    trace.bus_off()
+    recover(trace)
+    return trace.recorded()
+
+
+def stalls_are_not_counted(number: int) -> bytes:
+    """So many stalls, each after full was told again; then a bus-off, which has the short delay."""
+    trace = Trace(BENCH_NETWORK)
+    trace.go_to(Step.CHECKING)
+    for _ in range(number):
+        reset(trace)
+    trace.bus_off()
+    recover(trace)
+    return trace.recorded()
+
+
+def bus_offs_in_a_reset() -> bytes:
+    """In 15 before the request, after it and after an answer; in 16 after one answer and after both."""
+    trace = Trace(network(7, [3, 12], threshold=4))
+    for answered in range(-1, 2):
+        trace.go_to(Step.RESET_STOPPED)
+        trace.tick(1 if answered >= 0 else 0)
+        for request in trace.open_requests[:max(answered, 0)]:
+            trace.event(*answer_to(request))
+        trace.bus_off(controller=1)
+        trace.event(EventTag.CONTROLLER_ANSWER, 3, ControllerMode.STOPPED, OK)
+        recover(trace)
+    for answered in (1, 2):
+        trace.go_to(Step.RESET_STARTED)
+        for request in trace.open_requests[:answered]:
+            trace.event(*answer_to(request))
+        trace.bus_off()
+        trace.event(EventTag.CONTROLLER_ANSWER, 12, ControllerMode.STARTED, OK)
+        trace.tick(2)
+        recover(trace)
+    return trace.recorded()
+
+
+def reset_with_other_wishes(step: int, modes: List[int]) -> bytes:
+    """In this step of a reset, or before its stall, these modes are requested one after the other."""
+    trace = Trace(OF_OUTFIT[Outfit.TRANSCEIVER])
+    trace.go_to(step)
+    for mode in modes:
+        trace.want(mode)
+        trace.poll()
+    if step in FULL_STEPS:
+        trace.stall()
+    trace.replied_tick(6)
+    trace.poll()
+    trace.stall()
+    return trace.recorded()
+
+
+def silent_and_full_by_turns_in_a_reset() -> bytes:
+    """Silent is wanted in 15 and full again in 16, and the other way round; from silent the way to full is one tick."""
+    trace = Trace(BENCH_NETWORK)
+    for first, second in ((Mode.SILENT, Mode.FULL), (Mode.FULL, Mode.SILENT)):
+        trace.go_to(Step.RESET_STOPPED)
+        trace.want(first)
+        trace.replied_tick(2)
+        trace.want(second)
+        trace.replied_tick()
+        trace.poll()
+    trace.want(Mode.FULL)
+    trace.tick()
+    trace.poll()
+    return trace.recorded()
+
+
+def down_from_a_reset(outfit: int, step: int) -> bytes:
+    """No is wanted in this step with all answers there: it goes down whole, and comes up again."""
+    trace = Trace(OF_OUTFIT[outfit])
+    trace.go_to(step)
+    trace.tick(1 if step == Step.RESET_STOPPED else 0)
+    trace.reply()
+    trace.want(Mode.NO)
+    trace.tick()
+    trace.poll()
+    trace.stall()
+    trace.go_to(Step.NO_COMMUNICATION)
+    trace.stall()
+    trace.go_to(Step.CHECKING)
+    trace.stall()
+    return trace.recorded()
+
+
+def resets_over_and_over() -> bytes:
+    """Fifty stalls, each as soon as full is told again; then passed after all."""
+    trace = Trace(network(200, [3, 12], 6, times=(1, 2, 2)))
+    trace.go_to(Step.CHECKING)
+    for _ in range(50):
+        reset(trace)
+    trace.tick(2)
+    return trace.recorded()
+
+
+def handles_and_other_ids() -> bytes:
+    """A handle that is also a controller's or a transceiver's id of another network: the stall goes by the handle."""
+    trace = Trace(network(0, [31, 7], 1), network(7, [3], 0, partial=1), network(255, [0], 7))
+    up_together(trace)
+    for index in range(3):
+        trace.stall(index)
+        poll_all(trace)
+        trace.replied_tick(3)
+    trace.event(EventTag.STALL, 3)
+    trace.event(EventTag.STALL, 31)
+    poll_all(trace)
+    return trace.recorded()
+
+
+def stalls_together(*networks: model.Settings) -> bytes:
+    """All up; all stalled at once; then one at each tick, so that they are in different steps; a bus-off of each in turn."""
+    trace = Trace(*networks)
+    up_together(trace)
+    for index in range(len(networks)):
+        trace.stall(index)
+    poll_all(trace)
+    trace.replied_tick(3)
+    poll_all(trace)
+    for index in range(len(networks)):
+        trace.stall(index)
+        trace.replied_tick()
+    poll_all(trace)
+    trace.replied_tick(3)
+    for index in range(len(networks)):
+        trace.stall(index)
+        trace.bus_off(index)
+        trace.replied_tick()
+    trace.replied_tick(4)
+    poll_all(trace)
+    return trace.recorded()
+
+
+def stall_beside_others() -> bytes:
+    """One network is stalled while the second recovers from a bus-off, goes down, and comes up."""
+    bare, fitted, partial = OF_OUTFIT.values()
+    trace = Trace(partial, bare, fitted)
+    up_together(trace)
+    trace.bus_off(1)
+    trace.replied_tick()
+    reset(trace)
+    trace.want(Mode.NO, 1)
+    trace.replied_tick()
+    reset(trace)
+    trace.want(Mode.FULL, 1)
+    trace.replied_tick(2)
+    reset(trace)
+    trace.want(Mode.SILENT, 2)
+    trace.replied_tick()
+    trace.stall(2)
+    reset(trace)
+    poll_all(trace)
+    return trace.recorded()
+
+
+def largest_resets() -> bytes:
+    """All eight networks of four controllers stalled at once: the ticks ask all 32 to stop, to start, and tell full."""
+    trace = Trace(*(network(n, list(range(4 * n, 4 * n + 4)), n, times=(1, 1, 1)) for n in range(Limit.NETWORKS)))
+    up_together(trace)
+    for index in range(Limit.NETWORKS):
+        trace.stall(index)
+    trace.replied_tick(3)
+    poll_all(trace)
+    return trace.recorded()
+
+
+def stall_cases() -> Iterator[Case]:
+    """A stall in each step of each outfit, what a reset keeps and forgets, what can come in between, and many networks."""
+    for outfit, name in coverage.OUTFIT_NAMES.items():
+        for step in sorted(coverage.reachable_steps(outfit)):
+            yield Case(f"{name}, a stall in step {step}", stall_in_step(outfit, step))
+        for step in RESET_STEPS:
+            yield Case(f"{name}, down from step {step}", down_from_a_reset(outfit, step))
+    yield Case("a stall in step 4, full on the third tick", full_on_the_third_tick(Step.CHECKING), "20 0 2")
+    yield Case("a stall in step 5, full on the third tick", full_on_the_third_tick(Step.FULL), "23 0 2")
+    yield Case("passed comes again after a stall", passed_comes_again(), "24 0 8:7:0")
+    yield Case("a stall at each tick of step 4", stall_at_each_tick_of_checking())
+    yield Case("answers between a stall and the request", answers_before_the_request(), "25 0 3:3:0 6:7:2 7:7:2")
+    yield Case("late answers in a reset", late_answers_in_a_reset())
+    yield Case("the count through a stall", count_through_a_stall())
+    for number in (1, 2, 5):
+        yield Case(f"{number} stalls are not counted", stalls_are_not_counted(number))
+    yield Case("bus-offs in steps 15 and 16", bus_offs_in_a_reset())
+    for step in (Step.CHECKING, *RESET_STEPS):
+        yield Case(f"silent wanted of a reset in step {step}", reset_with_other_wishes(step, [Mode.SILENT]))
+        yield Case(f"no wanted of a reset in step {step}", reset_with_other_wishes(step, [Mode.NO]))
+        yield Case(f"the wish changed twice in step {step}", reset_with_other_wishes(step, [Mode.NO, Mode.SILENT, Mode.FULL]))
+    yield Case("silent and full by turns in a reset", silent_and_full_by_turns_in_a_reset())
+    yield Case("resets over and over", resets_over_and_over())
+    yield Case("stalls by handles that are other ids too", handles_and_other_ids())
+    bare, fitted, partial = OF_OUTFIT.values()
+    yield Case("two networks stalled", stalls_together(partial, bare))
+    yield Case("three networks stalled", stalls_together(bare, fitted, partial))
+    yield Case("eight networks stalled", stalls_together(*LARGEST))
+    yield Case("a stall beside others", stall_beside_others())
+    yield Case("the largest ticks of a reset", largest_resets())

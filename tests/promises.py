@@ -5,12 +5,14 @@ names of the definitions (`up`, `rested`, `on`, `awaited`, `runs`), and `broken`
 """
 
 from dataclasses import dataclass
-from typing import Callable, List, NamedTuple, Optional, Tuple
+from typing import Callable, List, NamedTuple, Optional, Set, Tuple
 
-from model import ControllerMode, EventManagerNotice, Kind, Limit, Mode, ModeManagerNotice, PduMode, Record, Refusal, Settings, TransceiverMode
+from model import ACCEPTED, ControllerMode, EventManagerNotice, Kind, Limit, Mode, ModeManagerNotice, PduMode, Record, Refusal, Settings
+from model import TransceiverMode
 
 TICK = "tick"
 BUS_OFF = "bus-off"
+STALL = "stall"
 ANSWER = "answer"
 REQUEST = "request"
 REPORT = "report"
@@ -21,12 +23,16 @@ NOTHING = "nothing"
 
 @dataclass
 class Seen:
-    """An entry as one network sees it: what the call is to it, its numbers, whether it was accepted, and the records that name its ids."""
+    """An entry as one network sees it: what the call is to it, its numbers, its answer, and the records that name its ids."""
 
     sight: str
-    accepted: bool
+    answer: int
     records: List[Record]
     values: Tuple[int, ...] = ()
+
+    @property
+    def accepted(self) -> bool:
+        return self.answer == ACCEPTED
 
     def hands(self, kind: int, target: int, argument: int) -> bool:
         return (kind, target, argument) in self.records
@@ -37,6 +43,8 @@ class Seen:
 
 History = List[Seen]
 Test = Callable[[Seen], bool]
+# After a stall one tick asks to stop, one to start, and one tells full.
+TICKS_OF_A_RESET = 3
 
 
 class Call(NamedTuple):
@@ -61,21 +69,24 @@ def own_records(network: Settings, records: List[Record]) -> List[Record]:
 
 
 def view(network: Settings, call: Call, number: int, records: List[Record]) -> Seen:
-    """How the network sees an entry: a refused tick is nothing, and so is a bus-off that was refused for lack of room."""
-    accepted = number == 0
+    """How the network sees an entry: a refused tick is nothing, and so is a bus-off or a stall that was refused for lack of room."""
+    short = number == Refusal.BUFFER_TOO_SHORT
     sight = NOTHING
-    if call.name == TICK and accepted:
+    if call.name == TICK and number == ACCEPTED:
         sight = TICK
     elif call.name == BUS_OFF and call.values[0] in network.controllers:
-        if not (number == Refusal.BUFFER_TOO_SHORT and call.lent < Limit.BUS_OFF_BYTES):
+        if not (short and call.lent < Limit.BUS_OFF_BYTES):
             sight = BUS_OFF
+    elif call.name == STALL and call.values[0] == network.handle:
+        if not (short and call.lent < Limit.STALL_BYTES):
+            sight = STALL
     elif call.name == ANSWER and call.values[0] in network.controllers:
         sight = ANSWER
     elif call.name == REQUEST and call.values[0] == network.handle:
         sight = REQUEST
     elif call.name in (REPORT, CLEARED, CHECKED) and call.values[0] == network.transceiver:
         sight = call.name
-    return Seen(sight, accepted, own_records(network, records), call.values)
+    return Seen(sight, number, own_records(network, records), call.values)
 
 
 # ---------------------------------------------------------------------------
@@ -99,6 +110,11 @@ def fell(entry: Seen) -> bool:
     return entry.sight == BUS_OFF
 
 
+def stalled(entry: Seen) -> bool:
+    """A stall of the network that was accepted: one that was refused changes nothing."""
+    return entry.sight == STALL and entry.accepted
+
+
 def ticks(history: History) -> int:
     return sum(ticked(entry) for entry in history)
 
@@ -120,7 +136,12 @@ class Words:
         return entry.hands(Kind.EVENT_MANAGER, self.handle, EventManagerNotice.PASSED)
 
     def setback(self, entry: Seen) -> bool:
-        return fell(entry) or self.shut(entry)
+        """A moment after which every controller must have answered anew."""
+        return fell(entry) or self.shut(entry) or stalled(entry)
+
+    def last_setback(self, history: History) -> int:
+        """The place of the last setback; -1 where there is none."""
+        return len(history) - len(since(self.setback, history)) - 1
 
     def told(self, history: History) -> int:
         for entry in reversed(history):
@@ -167,13 +188,17 @@ class Words:
     def all_run(self, history: History) -> bool:
         return all(self.runs(controller, history) for controller in self.network.controllers)
 
+    def fell_up(self, place: int, history: History) -> bool:
+        """The entry at this place is a bus-off while up."""
+        return place >= 0 and fell(history[place]) and self.up(history[:place])
+
     def falls(self, history: History) -> int:
         """The bus-offs while up since the last all-clear: whether one came while up is read off what went before it."""
         count = 0
         for place, entry in enumerate(history):
             if self.cleared(entry):
                 count = 0
-            elif fell(entry) and self.up(history[:place]):
+            elif self.fell_up(place, history):
                 count += 1
         return count
 
@@ -182,10 +207,8 @@ class Words:
 
     def owed(self, history: History) -> int:
         """The delay that the last setback brings: that of a bus-off while up, else none."""
-        place = len(history) - len(since(self.setback, history)) - 1
-        if place < 0 or not (fell(history[place]) and self.up(history[:place])):
-            return 0
-        return self.delay_at(history[:place + 1])
+        place = self.last_setback(history)
+        return self.delay_at(history[:place + 1]) if self.fell_up(place, history) else 0
 
     def first_running(self, part: History) -> int:
         """The number of the first tick of a part before which every controller runs within it; 0 where there is none."""
@@ -200,13 +223,41 @@ class Words:
         return 0 < first and first + self.owed(history) <= ticks(part) and self.wanted_at_tick(history) == Mode.FULL
 
     def awaited(self, kind: int, target: int, argument: int, history: History) -> bool:
-        """The last tick handed out such a record, and no bus-off was accepted since."""
+        """The last tick handed out such a record, and neither a bus-off nor a stall was accepted since."""
         for entry in reversed(history):
             if ticked(entry):
                 return entry.hands(kind, target, argument)
-            if fell(entry) and entry.accepted:
+            if (fell(entry) and entry.accepted) or stalled(entry):
                 return False
         return False
+
+    def stopped(self, controller: int, history: History) -> bool:
+        """Its last accepted answer to the request to stop is ok."""
+        for entry in reversed(history):
+            if entry.sight == ANSWER and entry.accepted and entry.values[:2] == (controller, ControllerMode.STOPPED):
+                return entry.values[2] == 1
+        return False
+
+    def all_stopped(self, history: History) -> bool:
+        return all(self.stopped(controller, history) for controller in self.network.controllers)
+
+    def good_since(self, place: int, history: History) -> bool:
+        """After the entry at this place full is wanted at every tick, each request to a controller is answered with ok before the next tick,
+        and no answer that is taken says not ok."""
+        unanswered: Set[Tuple[int, int]] = set()
+        wanted = self.wanted(history[:place + 1])
+        for entry in history[place + 1:]:
+            if ticked(entry):
+                if unanswered or wanted != Mode.FULL:
+                    return False
+                unanswered = {(target, mode) for kind, target, mode in entry.records if kind == Kind.CONTROLLER_MODE}
+            elif entry.sight == REQUEST and entry.accepted:
+                wanted = entry.values[1]
+            elif entry.sight == ANSWER and entry.values[2] == 1:
+                unanswered.discard(entry.values[:2])
+            elif entry.sight == ANSWER and entry.accepted:
+                return False
+        return True
 
 
 # ---------------------------------------------------------------------------
@@ -224,6 +275,57 @@ def broken_by_told(words: Words, history: History) -> List[str]:
         found.append("told-no")
     if words.told(history) == Mode.FULL and not words.all_run(since(words.setback, history)):
         found.append("answered")
+    return found
+
+
+def broken_by_delay(words: Words, history: History) -> List[str]:
+    """After a bus-off while up, however late the answers are: full not before the delay and two ticks, and exactly when it is due.
+
+    The first holds as long as there is no further bus-off and no shutdown: a stall is taken only while full is told, so it comes later. The
+    second holds as long as there is no further setback at all."""
+    found = []
+    full = words.told(history) == Mode.FULL
+    falling = len(history) - len(since(lambda entry: fell(entry) or words.shut(entry), history)) - 1
+    if words.fell_up(falling, history) and full and ticks(history[falling + 1:]) < words.delay_at(history[:falling + 1]) + 2:
+        found.append("delayed")
+    place = words.last_setback(history)
+    if words.fell_up(place, history):
+        part = history[place + 1:]
+        first = words.first_running(part)
+        over = 0 < first and first + words.delay_at(history[:place + 1]) <= ticks(part)
+        if full != (over and words.wanted_at_tick(history) == Mode.FULL) or first == 1:
+            found.append("late-answers")
+    return found
+
+
+def broken_by_good_times(words: Words, history: History) -> List[str]:
+    """Where conditions are good since the last setback, full is told on just one tick: after a bus-off while up on that of the delay and two,
+    after a stall on the third."""
+    place = words.last_setback(history)
+    if words.fell_up(place, history):
+        name, due = "on-just-that-tick", words.delay_at(history[:place + 1]) + 2
+    elif place >= 0 and stalled(history[place]):
+        name, due = "third-tick", TICKS_OF_A_RESET
+    else:
+        return []
+    if not words.good_since(place, history):
+        return []
+    passed = ticks(history[place + 1:])
+    on_this_tick = ticked(history[-1]) and passed == due
+    right = words.told(history) == (Mode.FULL if passed >= due else Mode.SILENT) and words.tells(Mode.FULL)(history[-1]) == on_this_tick
+    return [] if right else [name]
+
+
+def broken_by_stall(words: Words, entry: Seen, before: History) -> List[str]:
+    """A stall is accepted exactly if full is told, and then hands out just 6 silent; else it is refused with 22 and hands out nothing."""
+    if entry.sight != STALL:
+        return []
+    due = words.told(before) == Mode.FULL
+    found = []
+    if entry.answer != (ACCEPTED if due else Refusal.NOT_TAKEN):
+        found.append("stall-accepted")
+    if entry.records != ([(Kind.COMMUNICATION_MANAGER, words.handle, Mode.SILENT)] if entry.accepted else []):
+        found.append("stall-records")
     return found
 
 
@@ -307,19 +409,15 @@ def broken_by_down(words: Words, entry: Seen, before: History) -> List[str]:
 
 def stopped_and_normal(words: Words, part: History) -> bool:
     """Every controller's last accepted answer on stopped is ok; where there is a transceiver, it reported normal."""
-    def stopped(controller: int) -> bool:
-        for entry in reversed(part):
-            if entry.sight == ANSWER and entry.accepted and entry.values[:2] == (controller, ControllerMode.STOPPED):
-                return entry.values[2] == 1
-        return False
-
     normal = any(entry.sight == REPORT and entry.accepted and entry.values[1] == TransceiverMode.NORMAL for entry in part)
-    return all(map(stopped, words.network.controllers)) and (words.network.transceiver is None or normal)
+    return words.all_stopped(part) and (words.network.transceiver is None or normal)
 
 
 def broken_by_start(words: Words, entry: Seen, before: History) -> List[str]:
     """When controllers are asked to start, and how many records go out."""
     found = []
+    place = words.last_setback(before)
+    after_stall = place >= 0 and stalled(before[place])
     for controller in words.network.controllers:
         if entry.hands(Kind.CONTROLLER_MODE, controller, ControllerMode.STARTED):
             if not (ticked(entry) and words.on(before) and words.wanted(before) != Mode.NO):
@@ -327,22 +425,25 @@ def broken_by_start(words: Words, entry: Seen, before: History) -> List[str]:
             first = not words.asked_to_start(controller, since(words.shut, before))
             if first and not stopped_and_normal(words, since(words.tells(Mode.NO), before)):
                 found.append("start-after-stop")
-    most = {TICK: len(words.network.controllers) + 2, BUS_OFF: 3}.get(entry.sight, 0)
+            first = not words.asked_to_start(controller, before[place + 1:])
+            if after_stall and first and not words.all_stopped(before[place + 1:]):
+                found.append("start-after-stall")
+    most = {TICK: len(words.network.controllers) + 2, BUS_OFF: 3, STALL: 1}.get(entry.sight, 0)
     if len(entry.records) > most:
         found.append("few-records")
     return found
 
 
-STATEMENTS = (broken_by_bus_off, broken_by_answer, broken_by_full, broken_by_down, broken_by_start)
+STATEMENTS_OF_A_HISTORY = (broken_by_told, broken_by_delay, broken_by_good_times)
+STATEMENTS_OF_AN_ENTRY = (broken_by_bus_off, broken_by_stall, broken_by_answer, broken_by_full, broken_by_down, broken_by_start)
 
 
 def broken(network: Settings, history: History) -> Optional[Tuple[int, List[str]]]:
     """The first entry, by its number from 1, after which some statement is false, with the names of those; None where all hold."""
     words = Words(network)
     for place, entry in enumerate(history):
-        names = broken_by_told(words, history[:place + 1])
-        for statement in STATEMENTS:
-            names += statement(words, entry, history[:place])
+        names = [name for statement in STATEMENTS_OF_A_HISTORY for name in statement(words, history[:place + 1])]
+        names += [name for statement in STATEMENTS_OF_AN_ENTRY for name in statement(words, entry, history[:place])]
         if names:
             return place + 1, sorted(set(names))
     return None

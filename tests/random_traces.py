@@ -1,7 +1,8 @@
 """Random inputs for `cantrace`: long good traces for the most part, and damaged ones.
 
 A good trace is played in a closed loop by a driver that is mostly diligent: it answers most requests ok, some late, some not
-at all, some refused, some with another mode or id; it asks for modes, and lets bus-offs, polls and nonsense come in between.
+at all, some refused, some with another mode or id; it asks for modes, and lets bus-offs, stalls, polls and nonsense come in
+between.
 All randomness comes from the generator that is handed in.
 """
 
@@ -70,6 +71,7 @@ class Temper:
     lateness: float
     nonsense: float
     bus_off: float
+    stall: float
     wish: float
     idleness: float
 
@@ -82,6 +84,7 @@ def random_temper(random: Random) -> Temper:
         lateness=random.choice((0.0, 0.0, 0.05, 0.2)),
         nonsense=random.choice((0.0, 0.05, 0.2)),
         bus_off=random.choice((0.02, 0.1, 0.2, 0.4)),
+        stall=random.choice((0.02, 0.1, 0.2, 0.4)),
         wish=random.choice((0.05, 0.1, 0.3)),
         idleness=random.choice((0.0, 0.05, 0.15)),
     )
@@ -120,6 +123,8 @@ class Driver:
         self.request_modes()
         if self.happens(self.temper.bus_off):
             self.bus_offs()
+        if self.happens(self.temper.stall):
+            self.stall()
         self.answer_late()
         if self.happens(0.1):
             self.trace.event(EventTag.POLL, self.any_network().settings.handle)
@@ -181,6 +186,13 @@ class Driver:
         network = self.random.choice(up) if up and self.happens(0.8) else self.any_network()
         for _ in range(self.random.choice((1, 1, 1, 2, 5))):
             self.trace.event(EventTag.BUS_OFF, self.random.choice(network.settings.controllers))
+
+    def stall(self) -> None:
+        """A stall, mostly of a network that is full; now and then a second one at once."""
+        full = [network for network in self.trace.manager.networks if network.step in model.STALL_STEPS]
+        network = self.random.choice(full) if full and self.happens(0.8) else self.any_network()
+        for _ in range(self.random.choice((1, 1, 1, 1, 2))):
+            self.trace.event(EventTag.STALL, network.settings.handle)
 
     def nonsense(self) -> Event:
         """An event with values that need not fit: ids of its own network or any, modes in range or beyond."""
@@ -355,7 +367,7 @@ def noise(random: Random) -> bytes:
     fields = []
     for _ in range(random.randrange(40)):
         value = [random.randrange(40) for _ in range(random.choice((0, 1, 1, 1, 2, 3, 6)))]
-        fields.append(field(random.randrange(0x19), *value))
+        fields.append(field(random.randrange(0x1A), *value))
     return start + b"".join(fields)
 
 

@@ -361,7 +361,7 @@ def counted() -> List[Tuple[str, int]]:
 
 
 SMALL_NUMBERS = {
-    word: number for number, word in enumerate(("two", "three", "four", "five", "six", "seven", "eight", "nine", "ten", "eleven", "twelve"), start=2)
+    word: number for number, word in enumerate(("two", "three", "four", "five", "six", "seven", "eight", "nine", "ten", "eleven", "twelve", "thirteen"), start=2)
 }
 
 

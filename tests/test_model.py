@@ -15,6 +15,7 @@ BENCH_SHEET = bytes.fromhex("01000107 02000103 040006000200050003 05000101 06000
 TRANSCEIVER_SHEET = bytes.fromhex("01000107 02000103 02000104 03000105 040006000200050003 05000101 06000100")
 PARTIAL_SHEET = bytes.fromhex("01000109 02000101 02000102 03000106 040006000200050003 05000101 06000101")
 LARGE_BUFFER = 144
+UP_STEPS = (4, 5, 6, 7, 8, 15, 16)
 
 WHOLE_CASE_INPUT = bytes.fromhex(
     "01000107 02000103 040006000200050003 05000101 06000100"
@@ -90,6 +91,11 @@ class Box:
         self.records = []
         return self.manager.bus_off(self.controller, LARGE_BUFFER)
 
+    def stall(self):
+        """The sending of the network has stuck."""
+        self.records = []
+        return self.manager.stall(self.handle, LARGE_BUFFER)
+
     def tick_until(self, step):
         """Tick, with all requests answered, until the network has just come to the step."""
         for _ in range(40):
@@ -99,8 +105,8 @@ class Box:
         raise AssertionError(f"step {step} was not reached")
 
     def go_to(self, step):
-        """Bring the network by calls alone to the step; a tick brings it there, except for 6, and
-        except for the step of the start."""
+        """Bring the network by calls alone to the step; a tick brings it there, except for 6 and 15,
+        and except for the step of the start."""
         if step in (0, 9, 10, 11, 12, 13):
             self.tick_until(step)
         elif step == 14:
@@ -120,6 +126,10 @@ class Box:
             self.go_to(5)
             self.want(Mode.SILENT)
             self.tick_until(8)
+        elif step in (15, 16):
+            self.go_to(5)
+            self.stall()
+            self.tick_until(step)
         assert self.network.step == step
 
 
@@ -282,7 +292,7 @@ class Program(unittest.TestCase):
 
     def test_bad_events_stop(self):
         for events in ("18 0000", "ff0000", "100001 07", "160001 00", "1600", "170001", "12000303 01",
-                       "090000", "00"):
+                       "090000", "00", "190000", "190001 07", "180001", "180002 0707", "18"):
             with self.subTest(events=events):
                 output = self.after_bench_sheet("160000" + events)
                 self.assertEqual(output, "config 0 1\n1 0 1:3:0\nstop 28\n")
@@ -294,8 +304,8 @@ class Program(unittest.TestCase):
         self.assertEqual(self.after_bench_sheet("160000 160000 17000108").splitlines()[3], "3 3 0")
 
     def test_refusals_are_decimal(self):
-        expected = ["config 0 1", "1 3", "2 33", "3 8", "4 4", "5 34", "6 5", "7 5", "8 5"]
-        events = "1000020802 1000020703 1000020701 11000104 11000103 1300020000 14000100 15000100"
+        expected = ["config 0 1", "1 3", "2 33", "3 8", "4 4", "5 34", "6 5", "7 5", "8 5", "9 3", "10 34"]
+        events = "1000020802 1000020703 1000020701 11000104 11000103 1300020000 14000100 15000100 18000108 18000107"
         self.assertEqual(self.after_bench_sheet(events).splitlines(), expected)
 
     def test_no_events(self):
@@ -453,14 +463,14 @@ class CallsBeforeTheStart(unittest.TestCase):
         return [
             manager.tick(0), manager.bus_off(99, 0), manager.request(99, 9), manager.poll(99),
             manager.controller_answer(99, 9, 9), manager.transceiver_mode(99, 9),
-            manager.clear_done(99), manager.check_done(99),
+            manager.clear_done(99), manager.check_done(99), manager.stall(99, 0),
         ]
 
     def test_calls_without_a_start_give_01_before_all_else(self):
         manager = Manager.new()
-        self.assertEqual([call.answer for call in self.calls_that_need_a_start(manager)], [1] * 8)
+        self.assertEqual([call.answer for call in self.calls_that_need_a_start(manager)], [1] * 9)
         manager.read(BENCH_SHEET)
-        self.assertEqual([call.answer for call in self.calls_that_need_a_start(manager)], [1] * 8)
+        self.assertEqual([call.answer for call in self.calls_that_need_a_start(manager)], [1] * 9)
 
     def test_start_and_write_need_a_sheet(self):
         manager = Manager.new()
@@ -520,6 +530,22 @@ class RefusalOrder(unittest.TestCase):
         accepted = manager.bus_off(1, 9)
         self.assertEqual((accepted.answer, accepted.records, accepted.count), (0, [], 0))
 
+    def test_stall(self):
+        self.assertEqual(self.manager.stall(7, 2).answer, 0x20)
+        self.assertEqual(self.manager.stall(9, 2).answer, 0x20)
+        self.assertEqual(self.manager.stall(7, 3).answer, 0x03)
+        self.assertEqual(self.manager.stall(9, 3).answer, 0x22)
+
+    def test_stall_needs_3_bytes_in_the_steps_that_take_it_too(self):
+        for step in (4, 5):
+            manager = box_in_step(step, PARTIAL_SHEET).manager
+            for length in (0, 1, 2):
+                refused = manager.stall(9, length)
+                self.assertEqual((refused.answer, refused.records, refused.count), (0x20, [], 0))
+            self.assertEqual(manager.stall(7, 3).answer, 0x03)
+            accepted = manager.stall(9, 3)
+            self.assertEqual((accepted.answer, accepted.records, accepted.count), (0, [(6, 9, 1)], 1))
+
     def test_request(self):
         self.assertEqual(self.manager.request(7, 3).answer, 0x03)
         self.assertEqual(self.manager.request(9, 3).answer, 0x21)
@@ -568,11 +594,12 @@ class StepsAndCalls(unittest.TestCase):
         0: [], 1: ["transceiver 0"], 2: ["controller 0"], 3: ["controller 1"], 4: [], 5: [],
         6: ["controller 1"], 7: [], 8: [], 9: ["clear"], 10: ["controller 0"],
         11: ["transceiver 1"], 12: ["controller 2"], 13: ["check"], 14: ["check"],
+        15: ["controller 0"], 16: ["controller 1"],
     }
 
     def asked_box(self, step):
         box = box_in_step(step, PARTIAL_SHEET)
-        if step in (6, 9) and not box.network.asked:
+        if step in (6, 9, 15) and not box.network.asked:
             box.tick()
         return box
 
@@ -595,18 +622,26 @@ class StepsAndCalls(unittest.TestCase):
                     self.assertEqual(answer, 0 if call in taken else 0x22)
 
     def test_bus_off(self):
-        for step in range(15):
+        for step in range(17):
             outcome = box_in_step(step, PARTIAL_SHEET).bus_off()
             with self.subTest(step=step):
-                if step in (4, 5, 6, 7, 8):
+                if step in UP_STEPS:
                     self.assertEqual(outcome.records, [(8, 9, 1), (6, 9, 1), (7, 9, 3)])
-                self.assertEqual(outcome.answer, 0 if step in (3, 4, 5, 6, 7, 8) else 0x22)
+                self.assertEqual(outcome.answer, 0 if step in (3, *UP_STEPS) else 0x22)
+
+    def test_stall(self):
+        for step in range(17):
+            outcome = box_in_step(step, PARTIAL_SHEET).stall()
+            with self.subTest(step=step):
+                taken = step in (4, 5)
+                self.assertEqual(outcome.answer, 0 if taken else 0x22)
+                self.assertEqual(outcome.records, [(6, 9, 1)] if taken else [])
 
     def test_silent(self):
-        for step in range(15):
+        for step in range(17):
             with self.subTest(step=step):
                 answer = box_in_step(step, PARTIAL_SHEET).manager.request(9, 1).answer
-                self.assertEqual(answer, 0 if step in (4, 5, 6, 7, 8) else 0x08)
+                self.assertEqual(answer, 0 if step in UP_STEPS else 0x08)
 
     def test_nothing_is_taken_before_it_is_asked(self):
         self.assertEqual(Box().manager.controller_answer(3, 0, 1).answer, 0x22)
@@ -615,9 +650,13 @@ class StepsAndCalls(unittest.TestCase):
         self.assertEqual(box.manager.controller_answer(1, 1, 1).answer, 0x22)
         self.assertEqual(box.tick(), [(1, 1, 1), (1, 2, 1)])
         self.assertEqual(box.manager.controller_answer(1, 1, 1).answer, 0)
+        box = box_in_step(15, PARTIAL_SHEET)
+        self.assertEqual(box.manager.controller_answer(1, 0, 1).answer, 0x22)
+        self.assertEqual(box.tick(), [(1, 1, 0), (1, 2, 0)])
+        self.assertEqual(box.manager.controller_answer(1, 0, 1).answer, 0)
 
-    def test_wanted_no_goes_down_from_1_to_8(self):
-        for step in range(1, 9):
+    def test_wanted_no_goes_down_from_each_step_that_comes_up_or_is_up(self):
+        for step in (1, 2, 3, *UP_STEPS):
             box = box_in_step(step, PARTIAL_SHEET)
             box.want(Mode.NO)
             told_silent = [(6, 9, 1)] if step in (4, 5) else []
@@ -735,13 +774,172 @@ class StepRules(unittest.TestCase):
         self.assertEqual(model.lent_bytes_after(before, accepted), bytes([1, 3, 0]) + b"\xee" * 6)
 
 
+class Stalls(unittest.TestCase):
+    """X1 to X5: sending that has stuck, on the network of the bench cases; and what T29 and T30 make of it."""
+
+    def test_it_is_taken_in_4_and_5_alone(self):
+        for step in (4, 5):
+            outcome = box_in_step(step).stall()
+            self.assertEqual((outcome.answer, outcome.records, outcome.count), (0, [(6, 7, 1)], 1))
+        others = (0, 1, 2, 3, 6, 7, 8, 9, 10, 11, 12, 13, 14, 15, 16)
+        for step in others:
+            box = box_in_step(step, PARTIAL_SHEET)
+            before = repr(box.network)
+            with self.subTest(step=step):
+                outcome = box.stall()
+                self.assertEqual((outcome.answer, outcome.records, outcome.count), (0x22, [], 0))
+                self.assertEqual(repr(box.network), before)
+        self.assertEqual(sorted((4, 5, *others)), list(range(17)))
+
+    def test_it_goes_to_step_15_which_has_not_asked(self):
+        for step in (4, 5):
+            box = box_in_step(step, TRANSCEIVER_SHEET)
+            box.stall()
+            network = box.network
+            self.assertEqual((network.step, network.asked, network.reported), (15, False, False))
+            self.assertEqual((network.answers, network.tick_count), ([None, None], 0))
+            self.assertEqual(box.manager.poll(7).mode, Mode.SILENT)
+
+    def test_the_count_and_the_wanted_mode_stay(self):
+        for mode in (Mode.NO, Mode.SILENT, Mode.FULL):
+            box = box_in_step(4)
+            box.bus_off()
+            box.tick_until(4)
+            box.want(mode)
+            self.assertEqual(box.stall().answer, 0)
+            self.assertEqual((box.network.bus_off_count, box.network.wanted), (1, mode))
+
+    def test_answers_from_before_it_do_not_count(self):
+        box = box_in_step(4)
+        box.stall()
+        for mode in (0, 1, 2):
+            self.assertEqual(box.manager.controller_answer(3, mode, 1).answer, 0x22)
+        self.assertEqual(box.tick(), [(1, 3, 0)])
+        self.assertEqual(box.tick(), [(1, 3, 0)])
+        self.assertEqual(box.manager.controller_answer(3, 1, 1).answer, 0x22)
+        self.assertEqual(box.replied_tick(), [(1, 3, 1)])
+        self.assertEqual(box.manager.controller_answer(3, 0, 1).answer, 0x22)
+        self.assertEqual(box.tick(), [(1, 3, 1)])
+
+    def test_full_on_the_third_tick(self):
+        for step in (4, 5):
+            box = box_in_step(step)
+            box.stall()
+            self.assertEqual(box.replied_tick(), [(1, 3, 0)])
+            self.assertEqual(box.replied_tick(), [(1, 3, 1)])
+            self.assertEqual(box.replied_tick(), [(3, 3, 0), (6, 7, 2), (7, 7, 2)])
+            self.assertEqual((box.network.step, box.network.tick_count), (4, 0))
+
+    def test_all_controllers_are_asked_until_all_have_answered(self):
+        box = box_in_step(5, TRANSCEIVER_SHEET)
+        box.stall()
+        for mode, next_step in ((0, 16), (1, 4)):
+            self.assertEqual(box.tick() if mode == 0 else box.records, [(1, 3, mode), (1, 4, mode)])
+            self.assertEqual(box.manager.controller_answer(4, mode, 1).answer, 0)
+            self.assertEqual(box.tick(), [(1, 3, mode), (1, 4, mode)])
+            self.assertEqual(box.manager.controller_answer(3, mode, 0).answer, 0)
+            self.assertEqual(box.tick(), [(1, 3, mode), (1, 4, mode)])
+            self.assertEqual(box.manager.controller_answer(3, mode, 1).answer, 0)
+            box.tick()
+            self.assertEqual(box.network.step, next_step)
+
+    def test_passed_comes_again(self):
+        box = box_in_step(5)
+        box.stall()
+        self.assertEqual(replied_ticks_until_full(box), 3)
+        self.assertEqual([box.tick(), box.tick(), box.tick()], [[], [], [(8, 7, 0)]])
+
+    def test_the_ensure_time_begins_anew(self):
+        box = box_in_step(4)
+        self.assertEqual([box.tick(), box.tick()], [[], []])
+        box.stall()
+        self.assertEqual(replied_ticks_until_full(box), 3)
+        self.assertEqual([box.tick(), box.tick(), box.tick()], [[], [], [(8, 7, 0)]])
+
+    def test_a_bus_off_after_it_has_the_delay_of_the_count_before(self):
+        box = box_in_step(5)
+        box.stall()
+        replied_ticks_until_full(box)
+        box.bus_off()
+        self.assertEqual(replied_ticks_until_full(box), 4)
+        box.stall()
+        replied_ticks_until_full(box)
+        box.bus_off()
+        self.assertEqual(replied_ticks_until_full(box), 7)
+
+    def test_a_bus_off_in_15_and_16_is_counted(self):
+        for step in (15, 16):
+            box = box_in_step(step)
+            with self.subTest(step=step):
+                self.assertEqual(box.bus_off().records, [(8, 7, 1), (6, 7, 1), (7, 7, 3)])
+                self.assertEqual((box.network.step, box.network.asked, box.network.bus_off_count), (6, False, 1))
+                self.assertEqual(box.manager.controller_answer(3, 1, 1).answer, 0x22)
+                self.assertEqual(replied_ticks_until_full(box), 4)
+
+    def test_silent_may_be_asked_for_in_15_and_16(self):
+        for step in (15, 16):
+            box = box_in_step(step)
+            box.want(Mode.SILENT)
+            box.tick_until(16)
+            self.assertEqual(box.replied_tick(), [(3, 3, 1), (6, 7, 1), (7, 7, 1)])
+            self.assertEqual(box.network.step, 8)
+            box.want(Mode.FULL)
+            self.assertEqual(box.tick(), [(3, 3, 0), (6, 7, 2), (7, 7, 2)])
+
+    def test_silent_asked_for_in_15_and_full_in_16(self):
+        box = box_in_step(15)
+        box.want(Mode.SILENT)
+        box.tick_until(16)
+        box.want(Mode.FULL)
+        self.assertEqual(box.replied_tick(), [(3, 3, 0), (6, 7, 2), (7, 7, 2)])
+
+    def test_no_goes_down_from_15_and_16_and_silent_is_not_told_again(self):
+        for step in (15, 16):
+            box = box_in_step(step)
+            box.reply()
+            box.want(Mode.NO)
+            self.assertEqual(box.tick(), [(7, 7, 0), (1, 3, 0)])
+            self.assertEqual(box.network.step, 10)
+
+    def test_a_second_one_is_refused_until_full_is_told_again(self):
+        box = box_in_step(5)
+        self.assertEqual(box.stall().answer, 0)
+        for _ in range(3):
+            self.assertEqual(box.manager.stall(7, LARGE_BUFFER).answer, 0x22)
+            box.replied_tick()
+        self.assertEqual(box.stall().records, [(6, 7, 1)])
+
+    def test_it_moves_no_other_network(self):
+        manager = Manager.new()
+        manager.read(BENCH_SHEET + TRANSCEIVER_SHEET.replace(BENCH_SHEET[:8], bytes.fromhex("01000108 02000105")))
+        manager.start()
+        for network in manager.networks:
+            network.step, network.told, network.wanted = 5, Mode.FULL, Mode.FULL
+        before = repr(manager.networks[0])
+        self.assertEqual(manager.stall(8, LARGE_BUFFER).records, [(6, 8, 1)])
+        self.assertEqual(repr(manager.networks[0]), before)
+        self.assertEqual(manager.networks[1].step, 15)
+
+    def test_lent_bytes(self):
+        for length in (2, 3, 9):
+            box = box_in_step(4)
+            before = b"\xee" * length
+            after = model.lent_bytes_after(before, box.manager.stall(7, length))
+            self.assertEqual(after, before if length < 3 else bytes([6, 7, 1]) + before[3:])
+
+    def test_the_event(self):
+        events = "160000 120003030001 160000 120003030201 160000 1000020702 160000 120003030001 160000 120003030101 160000"
+        lines = model.cantrace(BENCH_SHEET + bytes.fromhex(events + "18000107 18000107 18000103 160000 120003030001")).splitlines()
+        self.assertEqual(lines[-5:], ["12 0 6:7:1", "13 34", "14 3", "15 0 1:3:0", "16 0"])
+
+
 class Decisions(unittest.TestCase):
-    """The 1,080 next steps."""
+    """The 1,224 next steps."""
 
     def test_number_and_order(self):
         situations = list(model.situations())
-        self.assertEqual(len(situations), 1080)
-        self.assertEqual(len(set(situations)), 1080)
+        self.assertEqual(len(situations), 1224)
+        self.assertEqual(len(set(situations)), 1224)
         self.assertEqual(situations[0], (0, 0, True, True, True, 0))
         self.assertEqual(situations[1], (0, 0, True, True, True, 1))
         self.assertEqual(situations[3], (0, 0, True, True, False, 0))
@@ -750,7 +948,9 @@ class Decisions(unittest.TestCase):
         self.assertEqual(situations[24], (0, 1, True, True, True, 0))
         self.assertEqual(situations[72], (1, 0, True, True, True, 0))
         self.assertEqual(situations[1079], (14, 2, False, False, False, 2))
-        self.assertEqual(len(list(model.decisions())), 1080)
+        self.assertEqual(situations[1080], (15, 0, True, True, True, 0))
+        self.assertEqual(situations[1223], (16, 2, False, False, False, 2))
+        self.assertEqual(len(list(model.decisions())), 1224)
 
     def row(self, step, wanted, done=False, refusal=False, reached=False):
         """The next steps of the three outfits."""
@@ -762,7 +962,7 @@ class Decisions(unittest.TestCase):
         self.assertEqual(self.row(0, Mode.NO, True, True, True), [0, 0, 0])
 
     def test_wanted_no_comes_first(self):
-        for step in range(1, 9):
+        for step in (1, 2, 3, *UP_STEPS):
             self.assertEqual(self.row(step, Mode.NO, True, True, True), [10, 10, 9])
 
     def test_up(self):
@@ -771,8 +971,11 @@ class Decisions(unittest.TestCase):
             self.assertEqual(self.row(2, wanted, done=True), [3, 3, 3])
             self.assertEqual(self.row(3, wanted, done=True), [4, 4, 4])
             self.assertEqual(self.row(6, wanted, done=True), [7, 7, 7])
-            for step in (1, 2, 3, 6):
+            self.assertEqual(self.row(15, wanted, done=True), [16, 16, 16])
+            for step in (1, 2, 3, 6, 15, 16):
                 self.assertEqual(self.row(step, wanted, False, True, True), [step] * 3)
+        self.assertEqual(self.row(16, Mode.SILENT, done=True), [8, 8, 8])
+        self.assertEqual(self.row(16, Mode.FULL, done=True), [4, 4, 4])
         self.assertEqual(self.row(4, Mode.SILENT, reached=True), [8, 8, 8])
         self.assertEqual(self.row(4, Mode.FULL, reached=True), [5, 5, 5])
         self.assertEqual(self.row(4, Mode.FULL, True, True, False), [4, 4, 4])
@@ -817,7 +1020,7 @@ class RandomHistories(unittest.TestCase):
     )
 
     def random_call(self, manager, chance):
-        choice = chance.randrange(12)
+        choice = chance.randrange(13)
         if choice < 4:
             return manager.tick(chance.choice((29, 30, 31, 144)))
         if choice < 8:
@@ -830,11 +1033,13 @@ class RandomHistories(unittest.TestCase):
         if choice == 10:
             done = chance.choice((manager.clear_done, manager.check_done))
             return done(chance.choice(self.TRANSCEIVERS))
+        if choice == 11:
+            return manager.stall(chance.choice(self.HANDLES), chance.choice((2, 3)))
         return manager.bus_off(chance.choice(self.CONTROLLERS), chance.choice((8, 9)))
 
     def check_network(self, network):
         if network.wanted == Mode.SILENT:
-            self.assertIn(network.step, (4, 5, 6, 7, 8))
+            self.assertIn(network.step, UP_STEPS)
         self.assertEqual(network.told == Mode.FULL, network.step in (4, 5))
         if network.step in (0, 4, 5, 7, 8):
             self.assertFalse(network.asked or network.reported)
@@ -859,7 +1064,7 @@ class RandomHistories(unittest.TestCase):
                 for network in manager.networks:
                     self.check_network(network)
                     steps_seen.add(network.step)
-        self.assertEqual(steps_seen, set(range(15)))
+        self.assertEqual(steps_seen, set(range(17)))
 
 
 if __name__ == "__main__":

@@ -1,7 +1,7 @@
 #!/usr/bin/env python3
 """Checks the pictures in `docs` against what they are made from, and what they say against the rules. It needs no graphviz.
 
-The labels of the steps' arrows are read here from the stored graph, by words that are written by hand, and tried in all 1,080 situations.
+The labels of the steps' arrows are read here from the stored graph, by words that are written by hand, and tried in all 1,224 situations.
 """
 
 import os
@@ -120,7 +120,7 @@ class StoredGraphTest(unittest.TestCase):
 
 
 # ---------------------------------------------------------------------------
-# The fifteen steps
+# The seventeen steps
 # ---------------------------------------------------------------------------
 
 # What each line of a label says, of: wanted, done, a refusal present, the time reached, the outfit.
@@ -159,50 +159,68 @@ def holds(lines: List[str], situation: Tuple) -> bool:
 
 
 def steps_of(node: str) -> List[int]:
-    """The steps that a node stands for: `each of 4 to 8` for five of them."""
-    group = re.fullmatch(r"each of (\d+) to (\d+)", node)
-    return list(range(int(group[1]), int(group[2]) + 1)) if group else [int(node)]
+    """The steps that a node stands for: `each of 4 to 8, 15 and 16` for seven of them."""
+    steps = []
+    for part in re.split(r", | and ", node.replace("each of ", "")):
+        first, _, last = part.partition(" to ")
+        steps += range(int(first), int(last or first) + 1)
+    return steps
 
 
-def arrows(dashed: bool) -> List[Tuple[int, int, List[str]]]:
-    """From, to and label of the arrows of the stored graph, one for each step that an arrow begins at."""
+# How the arrows of each event look that is no tick.
+DASHED, DOTTED = "dashed", "dotted"
+
+
+def arrows(style: str = "") -> List[Tuple[int, int, List[str]]]:
+    """From, to and label of the arrows of the stored graph that look so, one for each step that an arrow begins at; without a style a tick's."""
     return [
         (step, int(end), lines_of(attributes["label"]))
         for (start, end), attributes in stored_graph("steps").edges
         for step in steps_of(start)
-        if (attributes.get("style") == "dashed") == dashed
+        if attributes.get("style", "") == style
     ]
+
+
+def taken_events(tag: int) -> List[Tuple[int, int]]:
+    """By the model: each step in which a bus-off or a stall is taken, and the step after it."""
+    taken = []
+    for step in model.ALL_STEPS:
+        trace = Trace(OF_OUTFIT[Outfit.PARTIAL_NETWORKING])
+        trace.go_to(step)
+        settings = trace.network().settings
+        target = settings.handle if tag == EventTag.STALL else settings.controllers[0]
+        if trace.event(tag, target).answer == model.ACCEPTED:
+            taken.append((step, trace.network().step))
+    return taken
 
 
 class StepsTest(unittest.TestCase):
     """What the picture of the steps says, against the list of decisions, the model and the rules."""
 
     def test_labels_hold_in_just_the_situations_of_their_moves(self):
-        moves = arrows(dashed=False)
+        moves = arrows()
         stored = [int(word) for line in decisions.STORED.read_text().splitlines()[1:] for word in line.split()[1:]]
         situations = list(model.situations())
-        self.assertEqual((len(situations), len(stored)), (1080, 1080))
+        self.assertEqual((len(situations), len(stored)), (1224, 1224))
         for (step, *situation), next_step in zip(situations, stored):
             taken = [end for start, end, label in moves if start == step and holds(label, situation)]
             self.assertEqual(model.next_step(step, *situation), next_step)
             self.assertEqual(taken, [] if next_step == step else [next_step], (step, situation))
 
     def test_every_label_holds_somewhere(self):
-        for step, end, label in arrows(dashed=False):
+        for step, end, label in arrows():
             self.assertTrue(any(holds(label, situation) for _, *situation in model.situations()), (step, end))
 
-    def test_bus_offs(self):
-        """Each step that takes a bus-off, and the step after it, by the model."""
-        expected = []
-        for step in model.ALL_STEPS:
-            trace = Trace(OF_OUTFIT[Outfit.PARTIAL_NETWORKING])
-            trace.go_to(step)
-            self.assertEqual(trace.network().step, step)
-            if trace.event(EventTag.BUS_OFF, *trace.controllers()[:1]).answer == model.ACCEPTED:
-                expected.append((step, trace.network().step))
-        self.assertEqual(len(expected), 6)
-        self.assertEqual(sorted((step, end) for step, end, _ in arrows(dashed=True)), expected)
-        self.assertEqual({tuple(label) for _, _, label in arrows(dashed=True)}, {("bus-off",)})
+    def test_bus_offs_and_stalls(self):
+        for tag, style, label, number in ((EventTag.BUS_OFF, DASHED, "bus-off", 8), (EventTag.STALL, DOTTED, "stall", 2)):
+            expected = taken_events(tag)
+            self.assertEqual(len(expected), number)
+            self.assertEqual(sorted((step, end) for step, end, _ in arrows(style)), expected)
+            self.assertEqual({tuple(lines) for _, _, lines in arrows(style)}, {(label,)})
+
+    def test_every_arrow_is_of_a_tick_a_bus_off_or_a_stall(self):
+        edges = [steps_of(start) for (start, _), _ in stored_graph("steps").edges]
+        self.assertEqual(sum(map(len, edges)), sum(len(arrows(style)) for style in ("", DASHED, DOTTED)))
 
     def test_double_frame_means_full_is_told(self):
         nodes = stored_graph("steps").nodes
@@ -212,24 +230,24 @@ class StepsTest(unittest.TestCase):
             self.assertEqual(trace.network().step, step)
             self.assertEqual(nodes[str(step)].get("peripheries") == "2", trace.network().told == Mode.FULL, step)
 
-    def test_nodes_are_the_steps_and_two_groups(self):
-        expected = [*map(str, model.ALL_STEPS), "each of 1 to 8", "each of 4 to 8"]
+    def test_nodes_are_the_steps_and_three_groups(self):
+        expected = [*map(str, model.ALL_STEPS), "each of 1 to 8, 15 and 16", "each of 4 to 8, 15 and 16", "each of 4 and 5"]
         self.assertEqual(sorted(stored_graph("steps").nodes), sorted(expected))
 
     def test_frames(self):
-        """'Coming up: 1 [...] 3. Up: 4 [...] 8. Going down: 9 [...] 14.'"""
+        """N1: the groups of the steps."""
         text = steps_picture.GRAPH.read_text(encoding="utf-8")
         frames = {
             frame[1]: [int(node) for node in read_graph(frame[2]).nodes if node.isdigit()]
             for frame in re.finditer(r'subgraph "cluster ([^"]*)" {\n(.*?)}', text, re.DOTALL)
         }
-        self.assertEqual(frames, {"coming up": [1, 2, 3], "up": [4, 5, 6, 7, 8], "going down": [9, 10, 11, 12, 13, 14]})
+        self.assertEqual(frames, {"coming up": [1, 2, 3], "up": [4, 5, 6, 7, 8, 15, 16], "going down": [9, 10, 11, 12, 13, 14]})
 
     def test_a_changed_list_changes_the_graph(self):
         words = decisions.STORED.read_text().splitlines()
         for step in model.ALL_STEPS:
             row = words[step + 1].split()
-            row[1 + step] = str((int(row[1 + step]) + 1) % 15)
+            row[1 + step] = str((int(row[1 + step]) + 1) % len(model.ALL_STEPS))
             changed = "\n".join([*words[:step + 1], " ".join(row), *words[step + 2:]])
             self.assertNotEqual(steps_picture.graph_text(changed), steps_picture.stored_graph_text())
 
@@ -378,6 +396,26 @@ class RecoveryTest(unittest.TestCase):
         self.assertIn(f"network {second.handle}, mode told", texts)
         requests = [text for text in texts if text.startswith("start controller")]
         self.assertEqual(requests, [f"start controller {each} (1:{each}:1)" for each in second.controllers])
+
+    def test_a_stall_before_the_bus_off(self):
+        """It comes from above and its record goes back there, on a line of its own; no level may be used from it on."""
+        trace = Trace(OF_OUTFIT[Outfit.NO_TRANSCEIVER])
+        trace.go_to(5)
+        trace.stall()
+        trace.tick()
+        trace.stall()
+        trace.bus_off()
+        trace.replied_tick(5)
+        data = trace.recorded()
+        picture = recovery_picture.picture_of(data, model.cantrace(data).encode("ascii"), "a recording")
+        texts = texts_of(picture)
+        stalls = [text for text in texts if text.endswith(("stall", "stall, refused"))]
+        self.assertEqual([text.partition(": ")[2] for text in stalls], ["stall", "stall, refused"])
+        self.assertEqual(texts[texts.index(stalls[0]) + 1], MAY_NOT)
+        self.assertEqual(bands_of(picture), [NO, FULL, SILENT, FULL])
+        arrows_above = [text.attrib["y"] for text in ElementTree.fromstring(picture.encode("utf-8")).iter(f"{SVG}text")
+                        if "".join(text.itertext()) in ("sending of network 7 has stuck", "told silent (6:7:1)")]
+        self.assertEqual((len(arrows_above), len(set(arrows_above))), (4, 4))
 
     def test_refused_event(self):
         texts = texts_of(self.picture("two-controllers"))

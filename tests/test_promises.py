@@ -6,13 +6,14 @@ the test says which statement is false of it, and finds a history that shows it.
 """
 
 import unittest
+from collections import Counter
 from random import Random
 from typing import Dict, List, NamedTuple, Optional, Set, Tuple
 from unittest.mock import patch
 
 import model
 from model import Kind, Limit, Mode, Refusal, Settings, Step
-from promises import ANSWER, BUS_OFF, CHECKED, CLEARED, REPORT, REQUEST, TICK, Call, History, broken, view
+from promises import ANSWER, BUS_OFF, CHECKED, CLEARED, REPORT, REQUEST, STALL, TICK, Call, History, broken, view
 
 HISTORIES = 60
 CALLS_OF_A_HISTORY = 70
@@ -60,7 +61,8 @@ def answers_to(random: Random, records: List[model.Record]) -> List[Call]:
 
 
 def stray_call(random: Random, networks: List[Settings]) -> Call:
-    """A call that nobody asked for: a request, a bus-off with or without room, an answer or report of any kind, a tick without room."""
+    """A call that nobody asked for: a request, a bus-off or a stall with or without room, an answer or report of any kind, a tick without
+    room."""
     network = random.choice(networks)
     controller = random.choice(network.controllers)
     transceiver = 0 if network.transceiver is None else network.transceiver
@@ -71,6 +73,8 @@ def stray_call(random: Random, networks: List[Settings]) -> Call:
             Call(REQUEST, (network.handle, Mode.SILENT)),
             Call(BUS_OFF, (controller,), random.choice((FULL_ROOM, FULL_ROOM, Limit.BUS_OFF_BYTES - 1))),
             Call(BUS_OFF, (controller,), FULL_ROOM),
+            Call(STALL, (network.handle,), random.choice((FULL_ROOM, Limit.STALL_BYTES, Limit.STALL_BYTES - 1))),
+            Call(STALL, (random.choice((network.handle, 99)),), FULL_ROOM),
             Call(ANSWER, (controller, random.randint(0, 3), random.randint(0, 2))),
             Call(REPORT, (transceiver, random.randint(0, 3))),
             Call(random.choice((CLEARED, CHECKED)), (transceiver,)),
@@ -84,6 +88,8 @@ def made(manager: model.Manager, call: Call) -> model.Outcome:
         return manager.tick(call.lent)
     if call.name == BUS_OFF:
         return manager.bus_off(*call.values, call.lent)
+    if call.name == STALL:
+        return manager.stall(*call.values, call.lent)
     calls = {
         ANSWER: manager.controller_answer,
         REQUEST: manager.request,
@@ -108,7 +114,7 @@ def entry_of(manager: model.Manager, call: Call) -> Tuple[Call, int, List[model.
 
 
 def random_life(random: Random) -> Life:
-    """The neighbours answer mostly, and stray calls come in between."""
+    """The neighbours answer mostly, and stray calls come in between; a full network is stalled now and then."""
     networks = random_sheet(random)
     manager = model.Manager.new()
     manager.read(model.write_sheet(networks))
@@ -123,6 +129,9 @@ def random_life(random: Random) -> Life:
             call = Call(REQUEST, (networks[0].handle, Mode.FULL))
         if random.random() < (0.02 if calm else 0.12):
             call = stray_call(random, networks)
+        full = [network.settings.handle for network in manager.networks if network.told == Mode.FULL]
+        if full and random.random() < 0.06:
+            call = Call(STALL, (random.choice(full),), FULL_ROOM)
         entries.append(entry_of(manager, call))
         if call.name == TICK and call.lent == FULL_ROOM:
             _, number, records = entries[-1]
@@ -156,6 +165,29 @@ def there_and_back() -> Life:
     return prompt_life({0: wants[Mode.FULL], 7: falls, 11: wants[Mode.SILENT], 12: wants[Mode.FULL], 14: falls}, 24)
 
 
+def stalls_and_falls() -> Life:
+    """Up; three stalls, each when full is told again; then a bus-off, the first, which brings the short delay; a stall; a second bus-off."""
+    stalls = [Call(STALL, (1,), FULL_ROOM)]
+    falls = [Call(BUS_OFF, (0,), FULL_ROOM)]
+    wants = [Call(REQUEST, (1, Mode.FULL))]
+    return prompt_life({0: wants, 7: stalls, 10: stalls, 13: stalls, 16: falls, 20: stalls, 23: falls}, 34)
+
+
+def stalls_and_wishes() -> Life:
+    """Up; a stall, in which silent is wanted; full again; passed and a stall after it; silent wanted before a stall; a stall in silent."""
+    wants = {mode: [Call(REQUEST, (1, mode))] for mode in (Mode.NO, Mode.SILENT, Mode.FULL)}
+    stalls = [Call(STALL, (1,), FULL_ROOM)]
+    calls = {0: wants[Mode.FULL], 7: stalls + wants[Mode.SILENT], 11: stalls + wants[Mode.FULL], 22: stalls, 25: wants[Mode.SILENT] + stalls}
+    return prompt_life({**calls, 29: stalls + wants[Mode.FULL], 31: stalls, 32: wants[Mode.NO]}, 40)
+
+
+def short_stall() -> Life:
+    """Up; stalls with too few bytes, and an answer that nobody asked for; then a stall, and answers before they are asked for."""
+    early = [Call(ANSWER, (0, mode, 1)) for mode in (0, 1)]
+    short = [Call(STALL, (1,), lent) for lent in range(Limit.STALL_BYTES)]
+    return prompt_life({0: [Call(REQUEST, (1, Mode.FULL))], 7: short + early + [Call(STALL, (1,), Limit.STALL_BYTES)] + early}, 14)
+
+
 def faults(life: Life) -> Set[str]:
     """The names of the statements that a life breaks first, for any of its networks."""
     networks, entries, refused_with_room = life
@@ -184,6 +216,10 @@ real_tick = model.Manager.tick
 real_manager_bus_off = model.Manager.bus_off
 real_answer = model.Manager.controller_answer
 real_enter_asking = model.enter_asking_step
+real_stall = model.stall_network
+real_takes_stall = model.takes_stall
+real_resetting = model.next_step_resetting
+real_manager_stall = model.Manager.stall
 
 
 def quiet_bus_off(network):
@@ -274,9 +310,118 @@ def answers_kept(network):
     return records
 
 
+def stall_taken_in(step):
+    """One step more takes a stall."""
+    return lambda network: network.step == step or real_takes_stall(network)
+
+
+def stall_not_taken_in(step):
+    return lambda network: network.step != step and real_takes_stall(network)
+
+
+def stall_says_nothing(network):
+    """The reset begins, and full is still told."""
+    real_stall(network)
+    network.told = Mode.FULL
+    return []
+
+
+def stall_does_nothing(network):
+    """Silent is said, and no reset begins."""
+    return model.tell_communication_manager(network, Mode.SILENT)
+
+
+def reset_with_old_answers(network):
+    """The answers to the last request to start are kept, as if they were answers to the request to stop."""
+    records = real_stall(network)
+    network.asked = True
+    network.answers = [True] * len(network.answers)
+    return records
+
+
+def answers_taken_before_the_request(network):
+    """The step of the reset counts as one that has asked."""
+    records = real_stall(network)
+    network.asked = True
+    return records
+
+
+def stop_counts_as_start(network, step):
+    """What was answered on stopped is kept as the answer on started."""
+    answers = list(network.answers)
+    records = real_enter_asking(network, step)
+    if step == Step.RESET_STARTED:
+        network.answers = answers
+    return records
+
+
+def straight_to_started(network):
+    """Nobody is asked to stop."""
+    records = real_stall(network)
+    network.step = Step.RESET_STARTED
+    return records
+
+
+def stall_counts(network):
+    network.bus_off_count = min(network.bus_off_count + 1, Limit.BUS_OFF_COUNT)
+    return real_stall(network)
+
+
+def stall_clears(network):
+    network.bus_off_count = 0
+    return real_stall(network)
+
+
+def stall_wants_full(network):
+    network.wanted = Mode.FULL
+    return real_stall(network)
+
+
+def full_though_silent_after_a_reset(step, wanted, done):
+    return real_resetting(step, Mode.FULL, done)
+
+
+def silent_after_a_reset(step, wanted, done):
+    return real_resetting(step, Mode.SILENT, done)
+
+
+def full_without_starting(step, wanted, done):
+    """Full when the controllers are stopped."""
+    return real_resetting(Step.RESET_STARTED if done else step, wanted, done)
+
+
+def idle_reset(step, wanted, done):
+    """The controllers are asked to stop a second time after they have started."""
+    return Step.RESET_STOPPED if step == Step.RESET_STARTED and done else real_resetting(step, wanted, done)
+
+
+def stall_notes(network):
+    """The mode manager hears of a stall too."""
+    return real_stall(network) + model.tell_mode_manager(network, 1)
+
+
+def stall_in_a_short_buffer(self, handle, lent):
+    """A stall with too few bytes is accepted, and nothing is done about it."""
+    if self.is_started() and lent < Limit.STALL_BYTES:
+        return model.Outcome(0)
+    return real_manager_stall(self, handle, lent)
+
+
+def stall_refused_otherwise(self, handle, lent):
+    """A stall that the step does not take has the number of silent that is asked for too early."""
+    outcome = real_manager_stall(self, handle, lent)
+    return model.refused(Refusal.SILENT_NOT_NOW) if outcome.answer == Refusal.NOT_TAKEN else outcome
+
+
+def stall_taken_for_a_bus_off(network):
+    return real_bus_off(network)
+
+
 WRONG_BOXES: Dict[str, Tuple[Dict[str, object], Dict[str, object], Set[str]]] = {
     # what the box does: functions of the model, methods of its manager, and the statements of which at least one catches it
-    "no bus-off is said and no delay kept": ({"bus_off_network": quiet_bus_off, "timer_is_reached": no_delay}, {}, {"told-exactly", "bus-off-records"}),
+    "no bus-off is said and no delay kept": (
+        {"bus_off_network": quiet_bus_off, "timer_is_reached": no_delay}, {}, {"told-exactly", "bus-off-records"},
+    ),
     "no bus-off is said": ({"bus_off_network": quiet_bus_off}, {}, {"bus-off-records"}),
     "no delay is kept": ({"timer_is_reached": no_delay}, {}, {"told-exactly"}),
     "a second bus-off ends the wait": ({"bus_off_network": second_bus_off_cancels}, {}, {"bus-off-records"}),
@@ -292,15 +437,41 @@ WRONG_BOXES: Dict[str, Tuple[Dict[str, object], Dict[str, object], Set[str]]] = 
     "full and passed a tick early": ({"timer_is_reached": full_a_tick_early}, {}, {"told-exactly", "passed"}),
     "silent clears the count": ({"enter_silent": silent_clears}, {}, {"told-exactly"}),
     "answers are kept over a bus-off": ({"bus_off_network": answers_kept}, {}, {"answer-taken", "told-exactly"}),
+    "a stall is taken in silent": ({"takes_stall": stall_taken_in(Step.SILENT)}, {}, {"stall-accepted"}),
+    "a stall is taken while restarting": ({"takes_stall": stall_taken_in(Step.RESTARTING)}, {}, {"stall-accepted"}),
+    "a stall is taken while waiting": ({"takes_stall": stall_taken_in(Step.WAITING)}, {}, {"stall-accepted"}),
+    "a stall is taken in a reset": ({"takes_stall": stall_taken_in(Step.RESET_STARTED)}, {}, {"stall-accepted"}),
+    "a stall is not taken in step 5": ({"takes_stall": stall_not_taken_in(Step.FULL)}, {}, {"stall-accepted"}),
+    "a stall is not taken in step 4": ({"takes_stall": stall_not_taken_in(Step.CHECKING)}, {}, {"stall-accepted"}),
+    "a stall leaves full told": ({"stall_network": stall_says_nothing}, {}, {"stall-records"}),
+    "a stall begins no reset": ({"stall_network": stall_does_nothing}, {}, {"passed", "third-tick"}),
+    "a reset keeps the answers of before": ({"stall_network": reset_with_old_answers}, {}, {"start-after-stall"}),
+    "a stall is followed by answers that nobody asked for": ({"stall_network": answers_taken_before_the_request}, {}, {"answer-taken"}),
+    "a stop counts as a start": ({"enter_asking_step": stop_counts_as_start}, {}, {"told-exactly"}),
+    "nobody is asked to stop": ({"stall_network": straight_to_started}, {}, {"start-after-stall"}),
+    "a stall is counted as a bus-off": ({"stall_network": stall_counts}, {}, {"told-exactly"}),
+    "a stall clears the count": ({"stall_network": stall_clears}, {}, {"told-exactly"}),
+    "a stall wants full": ({"stall_network": stall_wants_full}, {}, {"full-told-by"}),
+    "full after a reset though silent is wanted": ({"next_step_resetting": full_though_silent_after_a_reset}, {}, {"full-told-by"}),
+    "silent after every reset": ({"next_step_resetting": silent_after_a_reset}, {}, {"told-exactly", "third-tick"}),
+    "full when the controllers are stopped": ({"next_step_resetting": full_without_starting}, {}, {"told-exactly", "third-tick"}),
+    "a reset that never ends": ({"next_step_resetting": idle_reset}, {}, {"told-exactly", "third-tick"}),
+    "a stall is noted by the mode manager": ({"stall_network": stall_notes}, {}, {"stall-records"}),
+    "a stall in a short buffer is accepted": ({}, {"stall": stall_in_a_short_buffer}, {"stall-records"}),
+    "a stall is refused by another number": ({}, {"stall": stall_refused_otherwise}, {"stall-accepted"}),
+    "a stall is taken for a bus-off": ({"stall_network": stall_taken_for_a_bus_off}, {}, {"stall-records"}),
 }
+# These are tried first: random lives show some of it late.
+ARRANGED_LIVES = (there_and_back, stalls_and_falls, stalls_and_wishes, short_stall)
 
 
 def caught(functions: Dict[str, object], methods: Dict[str, object], wanted: Set[str]) -> Optional[Set[str]]:
     """The first set of broken statements that has one of the wanted, over lives of the box; None where there is none."""
     with patch.multiple(model, **functions) if functions else patch.object(model, "ACCEPTED", model.ACCEPTED):
         with patch.multiple(model.Manager, **methods) if methods else patch.object(model, "ACCEPTED", model.ACCEPTED):
-            for seed in range(MOST_HISTORIES):
-                found = faults(random_life(Random(seed)) if seed else there_and_back())
+            for number in range(MOST_HISTORIES):
+                arranged = number < len(ARRANGED_LIVES)
+                found = faults(ARRANGED_LIVES[number]() if arranged else random_life(Random(number)))
                 if found & wanted:
                     return found
     return None
@@ -310,7 +481,8 @@ class Promises(unittest.TestCase):
     def test_the_model_keeps_all(self):
         for seed in range(HISTORIES):
             self.assertEqual(faults(random_life(Random(seed))), set(), f"seed {seed}")
-        self.assertEqual(faults(there_and_back()), set())
+        for life in ARRANGED_LIVES:
+            self.assertEqual(faults(life()), set(), life.__name__)
 
     def test_wrong_boxes_are_caught(self):
         for name, (functions, methods, wanted) in WRONG_BOXES.items():
@@ -323,6 +495,20 @@ class Promises(unittest.TestCase):
             networks, entries, _ = random_life(Random(seed))
             told += any((Kind.COMMUNICATION_MANAGER, networks[0].handle, Mode.FULL) in records for _, _, records in entries)
         self.assertGreater(told, HISTORIES // 3)
+
+    def test_stalls_are_taken_and_refused_in_many_histories(self):
+        answers = Counter(
+            number for seed in range(HISTORIES) for call, number, _ in random_life(Random(seed)).entries if call.name == STALL
+        )
+        self.assertGreater(answers[model.ACCEPTED], HISTORIES // 2)
+        for number in (Refusal.NOT_TAKEN, Refusal.UNKNOWN_HANDLE, Refusal.BUFFER_TOO_SHORT):
+            self.assertGreater(answers[number], HISTORIES // 20)
+
+    def test_the_third_tick_is_tried(self):
+        """Full is told on the third tick after each stall; after the bus-offs the short delay of 1 and two, and the long one of 5 and two."""
+        _, entries, _ = stalls_and_falls()
+        tells = [any(record == (Kind.COMMUNICATION_MANAGER, 1, Mode.FULL) for record in records) for call, _, records in entries if call.name == TICK]
+        self.assertEqual([number for number, told in enumerate(tells, 1) if told], [6, 10, 13, 16, 19, 23, 30])
 
 
 if __name__ == "__main__":

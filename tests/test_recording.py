@@ -20,7 +20,7 @@ import model
 import random_traces
 import trace_cases
 from model import EventTag, Refusal, Tag
-from traces import LARGEST, SHEET, TICK, WHOLE_CASE, field, network
+from traces import LARGEST, SHEET, TICK, WHOLE_CASE, Trace, field, network
 
 sys.path.append(str(examples.ROOT / "tools"))
 
@@ -193,11 +193,18 @@ FORMS = [
     ("tick", "160000"),
     ("poll 7", "17000107"),
     ("poll 007", "17000107", "poll 7"),
+    ("stall 7", "18000107"),
+    ("stall 255", "180001ff"),
+    ("stall 000", "18000100", "stall 0"),
     ("bytes 09 00 01 ff", "090001ff", "bytes 09 00 01 ff  # unknown tag"),
     ("bytes 09 00 01 FF", "090001ff", "bytes 09 00 01 ff  # unknown tag"),
     ("bytes 16", "16", "bytes 16  # cut field"),
     ("bytes 16 00 00", "160000", "tick"),
     ("bytes 17 00 00", "170000", "bytes 17 00 00  # wrong length"),
+    ("bytes 18 00 01 07", "18000107", "stall 7"),
+    ("bytes 18 00 00", "180000", "bytes 18 00 00  # wrong length"),
+    ("bytes 18 00 01", "180001", "bytes 18 00 01  # cut field"),
+    ("bytes 19 00 01 07", "19000107", "bytes 19 00 01 07  # unknown tag"),
 ]
 
 # Whole scripts, and their bytes.
@@ -259,10 +266,19 @@ def random_network(random):
     return " ".join(map(str, words)), model.write_network(model.Settings(handle, ids, transceiver, *times, threshold, partial))
 
 
+TAGS_WITH_ONE_NUMBER = {
+    "bus-off": EventTag.BUS_OFF,
+    "clear-done": EventTag.CLEAR_DONE,
+    "check-done": EventTag.CHECK_DONE,
+    "poll": EventTag.POLL,
+    "stall": EventTag.STALL,
+}
+
+
 def random_line(random):
     """A line of a script, and its bytes by the model."""
     number = random.randrange(256)
-    name = random.choice(("network", "want", "answer", "transceiver-mode", "bus-off", "clear-done", "check-done", "poll", "tick", "bytes"))
+    name = random.choice(("network", "want", "answer", "transceiver-mode", *TAGS_WITH_ONE_NUMBER, "tick", "bytes"))
     if name == "network":
         return random_network(random)
     if name == "want":
@@ -280,8 +296,7 @@ def random_line(random):
     if name == "bytes":
         data = random.randbytes(random.randint(1, 20))
         return f"bytes {data.hex(' ')}", data
-    tag = {"bus-off": EventTag.BUS_OFF, "clear-done": EventTag.CLEAR_DONE, "check-done": EventTag.CHECK_DONE, "poll": EventTag.POLL}[name]
-    return f"{name} {number}", field(tag, number)
+    return f"{name} {number}", field(TAGS_WITH_ONE_NUMBER[name], number)
 
 
 class RandomScriptsTest(unittest.TestCase):
@@ -342,6 +357,10 @@ BAD_LINES = [
     ("clear-done x", f"'x' is no transceiver id: {A_BYTE}"),
     ("check-done 300", f"'300' is no transceiver id: {A_BYTE}"),
     ("poll", f"the handle is missing: {A_BYTE}"),
+    ("stall", f"the handle is missing: {A_BYTE}"),
+    ("stall 256", f"'256' is no handle: {A_BYTE}"),
+    ("stall 7 full", "'full' is too much: the line is complete before it"),
+    ("stalled 7", "no line begins with 'stalled': --help shows the forms"),
     ("tick 3", "'3' is too much: the line is complete before it"),
     ("Tick", "no line begins with 'Tick': --help shows the forms"),
     ("tick\u00a0", "no line begins with 'tick\\xa0': --help shows the forms"),
@@ -467,8 +486,8 @@ CALL_REFUSALS = {
     Refusal.UNKNOWN_CONTROLLER: "refused: 0x04, unknown controller",
     Refusal.UNKNOWN_TRANSCEIVER: "refused: 0x05, unknown transceiver",
     Refusal.VALUE_OUT_OF_RANGE: "refused: 0x21, a mode or ok value is out of its range",
-    Refusal.SILENT_NOT_NOW: "refused: 0x08, silent is asked for, and the network is not up (steps 4 to 8)",
-    Refusal.NOT_TAKEN: "refused: 0x22, an answer or bus-off that the step does not take",
+    Refusal.SILENT_NOT_NOW: "refused: 0x08, silent is asked for, and the network is not up (steps 4 to 8, 15, 16)",
+    Refusal.NOT_TAKEN: "refused: 0x22, an answer, bus-off or stall that the step does not take",
 }
 
 # A sheet for each of its refusals, the model's line for it, and what is said of it and of its place.
@@ -503,13 +522,16 @@ EVENTS = [
     ("check-done 4", "wake flag of transceiver 4 checked"),
     ("tick", "tick"),
     ("poll 7", "poll of network 7"),
+    ("stall 7", "sending of network 7 has stuck"),
 ]
 
 # Bytes after the sheet and a tick, what is shown of them, and why the program stops there.
 STOPS = [
     ("16", "bytes 16", "the field is cut"),
     ("0900", "bytes 09 00", "the field is cut"),
-    ("180000", "bytes 18 00 00", "the tag is unknown"),
+    ("190000", "bytes 19 00 00", "the tag is unknown"),
+    ("180000", "bytes 18 00 00", "the length is not that of the tag"),
+    ("180001", "bytes 18 00 01", "the field is cut"),
     ("160001 00", "bytes 16 00 01 00", "the length is not that of the tag"),
     ("01000107", "handle 7", "the tag is below 10, and the sheet is over"),
     ("0f0000", "bytes 0f 00 00", "the tag is below 10, and the sheet is over"),
@@ -580,6 +602,57 @@ class ExplainTest(unittest.TestCase):
             "the mode last told: no communication", "the mode last told: silent", "the mode last told: full", "refused: 0x03, unknown handle",
         ])
 
+    def test_refused_stalls(self):
+        data = SHEET + written("stall 7\nstall 8\nstall 7")
+        found = explained(data, "config 0 1\n1 34\n2 3\n3 32\n")
+        self.assertEqual([row[-1] for row in found[1:]], [
+            "refused: 0x22, an answer, bus-off or stall that the step does not take",
+            "it is taken only while full is told: if sending sticks then, make it again",
+            "refused: 0x03, unknown handle",
+            "compare the caller's handles with the sheet",
+            "refused: 0x20, the lent buffer is too short",
+            "it has not happened: lend 3 bytes or more, and make it again",
+        ])
+        self.assertEqual([line.split() for line in model.cantrace(data).splitlines()[1:]], [["1", "34"], ["2", "3"], ["3", "34"]])
+
+    def test_a_reset(self):
+        """What a stall brings is said, and which requests are for the reset; what follows the notice that ends it is not."""
+        stalled = network(7, [3]), network(9, [4])
+        up = Trace(*stalled)
+        up.go_to(4, 1)
+        up.go_to(4, 0)
+        begin = up.number_of_events()
+        up.stall()
+        up.replied_tick(3)
+        up.stall()
+        up.tick()
+        up.want(model.Mode.NO)
+        up.tick()
+        up.want(model.Mode.NO, 1)
+        up.tick()
+        data = up.recorded()
+        found = [row[1:] for row in explained(data, model.cantrace(data))]
+        start = [index for index, row in enumerate(found) if row[0] == "sending of network 7 has stuck"][0]
+        outlook = "the next tick asks all its controllers to stop, a later one to start"
+        silent = "tell the communication manager: network 7 silent"
+        self.assertEqual(model.cantrace(data).splitlines()[begin + 1], f"{begin + 1} 0 6:7:1")
+        self.assertEqual(found[start:], [
+            ["sending of network 7 has stuck", silent], [outlook],
+            ["tick", "ask controller 3 to stop, for the reset"],
+            ["controller 3 answers: stopped, ok", "taken"],
+            ["tick", "ask controller 3 to start, for the reset"],
+            ["controller 3 answers: started, ok", "taken"],
+            ["tick", "allow controller 3 to send (online)"], ["tell the communication manager: network 7 full"],
+            ["tell the mode manager: network 7 full"],
+            ["sending of network 7 has stuck", silent], [outlook],
+            ["tick", "ask controller 3 to stop, for the reset"],
+            ["no communication is wanted of network 7", "accepted: stored, and the next tick looks at it"],
+            ["tick", "tell the mode manager: network 7 no communication"], ["ask controller 3 to stop"],
+            ["no communication is wanted of network 9", "accepted: stored, and the next tick looks at it"],
+            ["tick", "ask controller 3 to stop"], ["tell the mode manager: network 9 no communication"],
+            ["tell the communication manager: network 9 silent"], ["ask controller 4 to stop"],
+        ])
+
     def test_each_stop(self):
         for after, shown, words in STOPS:
             data = SHEET + TICK + bytes.fromhex(after)
@@ -642,7 +715,7 @@ MISMATCHES = [
     (WHOLE_CASE, WHOLE_OUTPUT.replace("1:3:2", "1:3"), "line 4: '1:3' is no record"),
     (WHOLE_CASE, WHOLE_OUTPUT.replace("1:3:2", "1:03:2"), "line 4: '1:03:2' is no record"),
     (WHOLE_CASE, WHOLE_OUTPUT.replace("\n2 0\n", "\n2 0 1:3:2\n"),
-     "line 3: only a tick and a bus-off hand out records, and this is: controller 3 answers: stopped, ok"),
+     "line 3: only a tick, a bus-off and a stall hand out records, and this is: controller 3 answers: stopped, ok"),
     (WHOLE_CASE, WHOLE_OUTPUT.replace("\n2 0\n", "\n2 99\n"), "line 3: 99 is no refusal that can stand here"),
     (WHOLE_CASE, WHOLE_OUTPUT.replace("\n2 0\n", "\n2 48\n"), "line 3: 48 is no refusal that can stand here"),
     (WHOLE_CASE, WHOLE_OUTPUT.replace("\n3 0 1", "\n3 34 1"), "line 4: a refused event hands out nothing"),
@@ -821,6 +894,18 @@ class ExamplesTest(unittest.TestCase):
 
     def test_whole_case(self):
         self.assertEqual(recording_of(examples.WHOLE_CASE.read_bytes()), WHOLE_CASE)
+
+    def test_stall(self):
+        """X2 to X5, T29, T30 and B2: the lines that its comments speak of, written by hand."""
+        lines = (examples.EXAMPLES / "stall.txt").read_text(encoding="ascii").splitlines()
+        self.assertEqual(len(lines), 33)
+        full = "3:3:0 6:7:2 7:7:2"
+        for number, answer in {
+            11: f"0 {full}", 13: "0 8:7:0", 14: "0 6:7:1", 15: "34", 16: "0 1:3:0", 18: "0 1:3:1", 20: f"0 {full}", 21: "0 2", 22: "0",
+            23: "0 8:7:0", 24: "0 6:7:1", 25: "0 1:3:0", 26: "0 8:7:1 6:7:1 7:7:3", 27: "0 1:3:1", 29: "0 3:3:1", 30: "34", 31: "0",
+            32: f"0 {full}",
+        }.items():
+            self.assertEqual(lines[number], f"{number} {answer}")
 
     def test_each_example_can_be_read_back(self):
         scripts = sorted(examples.EXAMPLES.glob("*.script"))

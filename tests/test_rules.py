@@ -57,7 +57,7 @@ def gaps(rules: List[str]) -> List[str]:
     by_letter: Dict[str, List[int]] = {}
     for rule in rules:
         by_letter.setdefault(rule[0], []).append(int(rule[1:]))
-    return [f"{letter}: {numbers}" for letter, numbers in by_letter.items() if numbers != list(range(1, len(numbers) + 1))]
+    return [f"{letter}: {numbers}" for letter, numbers in by_letter.items() if sorted(numbers) != list(range(1, len(numbers) + 1))]
 
 
 class Rules(unittest.TestCase):
@@ -91,7 +91,7 @@ class Rules(unittest.TestCase):
 
     def test_the_model_cites_each_rule_of_the_manager(self):
         cited_there = cited((ROOT / "tests" / "model.py").read_text())
-        self.assertEqual([rule for rule in self.rules if rule[0] in "RHNTBAC" and rule not in cited_there], [])
+        self.assertEqual([rule for rule in self.rules if rule[0] in "RHNTBXAC" and rule not in cited_there], [])
 
 
 class Reading(unittest.TestCase):

@@ -27,11 +27,12 @@ from traces import LARGEST, NOT_OK, OF_OUTFIT, SHEET, TICK, WHOLE_CASE, Case, Tr
 
 TESTS_FOLDER = Path(__file__).resolve().parent
 
-# T3 to T22: the next steps of each step, itself among them where a tick can leave it there; the first down step is one more of
-# each step from 1 to 8.
+# T3 to T22, T29 and T30: the next steps of each step, itself among them where a tick can leave it there; the first down step is one more
+# of each step that comes up or is up.
 SHARED_NEXT_STEPS = {
-    2: (2, 3), 3: (3, 4), 4: (4, 5, 8), 5: (5, 8), 6: (6, 7), 7: (7, 4, 8), 8: (8, 4),
+    2: (2, 3), 3: (3, 4), 4: (4, 5, 8), 5: (5, 8), 6: (6, 7), 7: (7, 4, 8), 8: (8, 4), 15: (15, 16), 16: (16, 4, 8),
 }
+STEPS_THAT_GO_DOWN = (1, 2, 3, 4, 5, 6, 7, 8, 15, 16)
 NEXT_STEPS = {
     Outfit.NO_TRANSCEIVER: {0: (0, 2), 10: (10, 12), 12: (12, 0)},
     Outfit.TRANSCEIVER: {0: (0, 1), 1: (1, 2), 10: (10, 12), 11: (11, 0), 12: (12, 11)},
@@ -40,7 +41,9 @@ NEXT_STEPS = {
     },
 }
 # B4, B5: those that take a bus-off, and the step after it.
-BUS_OFF_STEPS = {(3, 3), (4, 6), (5, 6), (6, 6), (7, 6), (8, 6)}
+BUS_OFF_STEPS = {(3, 3), (4, 6), (5, 6), (6, 6), (7, 6), (8, 6), (15, 6), (16, 6)}
+# X2, X3: those that take a stall, and the step after it.
+STALL_STEPS = {(4, 15), (5, 15)}
 
 
 def reached_by(*inputs):
@@ -58,17 +61,15 @@ class PossibleTest(unittest.TestCase):
         for outfit, own in NEXT_STEPS.items():
             down = 9 if outfit == Outfit.PARTIAL_NETWORKING else 10
             expected = {(step, target) for step, targets in {**SHARED_NEXT_STEPS, **own}.items() for target in targets}
-            expected |= {(step, down) for step in {**SHARED_NEXT_STEPS, **own} if 1 <= step <= 8}
-            found = coverage.possible_transitions(outfit)
-            ticks = {(move.step, move.next_step) for move in found if move.cause == EventTag.TICK}
-            bus_offs = {(move.step, move.next_step) for move in found if move.cause == EventTag.BUS_OFF}
-            self.assertEqual(expected, ticks)
-            self.assertEqual(BUS_OFF_STEPS, bus_offs)
+            expected |= {(step, down) for step in {**SHARED_NEXT_STEPS, **own} if step in STEPS_THAT_GO_DOWN}
+            for cause, moves in ((EventTag.TICK, expected), (EventTag.BUS_OFF, BUS_OFF_STEPS), (EventTag.STALL, STALL_STEPS)):
+                found = coverage.possible_transitions(outfit)
+                self.assertEqual(moves, {(move.step, move.next_step) for move in found if move.cause == cause})
 
     def test_steps_of_each_outfit(self):
-        self.assertEqual({0, 2, 3, 4, 5, 6, 7, 8, 10, 12}, coverage.reachable_steps(Outfit.NO_TRANSCEIVER))
-        self.assertEqual({*range(9), 10, 11, 12}, coverage.reachable_steps(Outfit.TRANSCEIVER))
-        self.assertEqual(set(range(15)), coverage.reachable_steps(Outfit.PARTIAL_NETWORKING))
+        self.assertEqual({0, 2, 3, 4, 5, 6, 7, 8, 10, 12, 15, 16}, coverage.reachable_steps(Outfit.NO_TRANSCEIVER))
+        self.assertEqual({*range(9), 10, 11, 12, 15, 16}, coverage.reachable_steps(Outfit.TRANSCEIVER))
+        self.assertEqual(set(range(17)), coverage.reachable_steps(Outfit.PARTIAL_NETWORKING))
 
     def test_every_refusal_number_is_possible_or_has_a_reason(self):
         numbers = {number for name, number in vars(model.Refusal).items() if name.isupper()}
@@ -119,6 +120,20 @@ class ReachedTest(unittest.TestCase):
         after = reached_by(trace.recorded())["transitions"] - reached_by(trace.recorded()[:before])["transitions"]
         self.assertEqual({Transition(Outfit.TRANSCEIVER, EventTag.BUS_OFF, 4, 6)}, after)
 
+    def test_refused_stall_moves_nothing(self):
+        reached = reached_by(SHEET + field(EventTag.STALL, 7), SHEET + field(EventTag.STALL, 3))
+        self.assertEqual({0x03, 0x22}, reached["refusals"])
+        self.assertEqual(set(), reached["transitions"])
+
+    def test_stall_moves_one_network_only(self):
+        trace = Trace(*OF_OUTFIT.values())
+        for index in range(3):
+            trace.go_to(5, index=index)
+        before = len(trace.recorded())
+        trace.stall(index=2)
+        after = reached_by(trace.recorded())["transitions"] - reached_by(trace.recorded()[:before])["transitions"]
+        self.assertEqual({Transition(Outfit.PARTIAL_NETWORKING, EventTag.STALL, 5, 15)}, after)
+
     def test_endings(self):
         for data, ending in (
             (SHEET, Ending.WHOLE),
@@ -126,9 +141,12 @@ class ReachedTest(unittest.TestCase):
             (b"", Ending.SHEET_REFUSED),
             (SHEET + b"\x16", Ending.HEADER_CUT),
             (SHEET + TICK + b"\x0f\x00\x00", Ending.TAG_BELOW),
-            (SHEET + b"\x18\x00\x00", Ending.TAG_UNKNOWN),
+            (SHEET + b"\x19\x00\x00", Ending.TAG_UNKNOWN),
             (SHEET + b"\x16\x00\x01", Ending.LENGTH_ABOVE),
             (SHEET + b"\x17\x00\x00", Ending.LENGTH_BELOW),
+            (SHEET + b"\x18\x00\x00", Ending.LENGTH_BELOW),
+            (SHEET + b"\x18\x00\x02\x07\x07", Ending.LENGTH_ABOVE),
+            (SHEET + b"\x18\x00\x01", Ending.VALUE_CUT),
             (SHEET + b"\x17\x00\x01", Ending.VALUE_CUT),
         ):
             self.assertEqual({ending}, reached_by(data)["endings"])
@@ -264,16 +282,19 @@ class StoredCasesTest(unittest.TestCase):
         self.assertEqual(1, len(trace_cases.case_faults([wrong], [model.cantrace(b"")])))
 
     def test_played_cases_run_to_their_end(self):
-        groups = (played_cases.tick_cases, played_cases.call_cases, played_cases.bus_off_cases, played_cases.network_cases)
+        groups = (
+            played_cases.tick_cases, played_cases.call_cases, played_cases.bus_off_cases, played_cases.network_cases,
+            played_cases.reset_cases, played_cases.stall_cases,
+        )
         for case in (case for group in groups for case in group()):
             lines = model.cantrace(case.data).splitlines()
             self.assertTrue(lines[0].startswith("config 0 "), case.name)
             self.assertFalse(lines[-1].startswith("stop"), case.name)
 
-    def test_a_case_that_is_left_out_is_noticed(self):
+    def test_cases_that_are_left_out_are_noticed(self):
         reached = Reached()
         for case in self.cases:
-            if case.name != "partial, ticks in step 14":
+            if case.name not in ("partial, ticks in step 14", "partial, a stall in step 14"):
                 watched_cantrace(case.data, reached)
         faults = trace_cases.coverage_faults(reached)
         self.assertIn("trace_cases: not reached: transitions: partial, tick, 14 to 14", faults)
@@ -345,6 +366,21 @@ class RandomInputsTest(unittest.TestCase):
             self.assertTrue(lines[0].startswith("config 0 "))
             self.assertFalse(lines[-1].startswith("stop"))
             self.assertTrue(50 <= len(lines) - 1 <= 400)
+
+    def test_stalls_are_taken_and_refused(self):
+        reached = Reached()
+        for seed in range(40):
+            watched_cantrace(random_traces.long_trace(Random(seed)), reached)
+        answers = reached.times["answers"]
+        self.assertGreater(answers[EventTag.STALL, model.ACCEPTED], 100)
+        self.assertGreater(answers[EventTag.STALL, model.Refusal.NOT_TAKEN], 100)
+        self.assertGreater(answers[EventTag.STALL, model.Refusal.UNKNOWN_HANDLE], 0)
+        moves = reached.times["transitions"]
+        for outfit in model.ALL_OUTFITS:
+            for move in ((4, 15), (5, 15)):
+                self.assertGreater(moves[Transition(outfit, EventTag.STALL, *move)], 0)
+            for move in ((15, 15), (15, 16), (16, 16), (16, 4), (16, 8)):
+                self.assertGreater(moves[Transition(outfit, EventTag.TICK, *move)], 0)
 
     def test_sheets_are_good_and_varied(self):
         numbers, outfits = set(), set()

@@ -32,6 +32,9 @@ GROUPS: List[Callable[[], Iterator[Case]]] = [
     damaged_cases.sheet_cases,
     damaged_cases.event_cases,
     damaged_cases.longest_cases,
+    played_cases.reset_cases,
+    played_cases.stall_cases,
+    damaged_cases.bad_stall_cases,
 ]
 
 

@@ -17,6 +17,7 @@ NOT_OK = 0
 REQUEST_KINDS = (Kind.CONTROLLER_MODE, Kind.TRANSCEIVER_MODE, Kind.CLEAR_WAKE_FLAG, Kind.CHECK_WAKE_FLAG)
 FULL_STEPS = (Step.CHECKING, Step.FULL)
 RECOVERY_STEPS = (Step.RESTARTING, Step.WAITING)
+RESET_STEPS = (Step.RESET_STOPPED, Step.RESET_STARTED)
 DOWN_STEPS = (9, 10, 11, 12, 13, 14)
 MOST_TURNS_OF_A_WAY = 100
 
@@ -172,6 +173,10 @@ class Trace:
         """A bus-off of one of the network's controllers, by its place among them."""
         self.event(EventTag.BUS_OFF, self.controllers(index)[controller])
 
+    def stall(self, index: int = 0) -> None:
+        """The sending of a network has stuck. Where that is taken nothing was asked of the network, so no request becomes stale."""
+        self.event(EventTag.STALL, self.network(index).settings.handle)
+
     # Runs of events
 
     def reply(self, ok: int = OK) -> None:
@@ -192,7 +197,7 @@ class Trace:
             self.want(mode, index)
 
     def go_to(self, step: int, index: int = 0) -> None:
-        """Bring a network to a step by requests, answers, bus-offs and ticks; where it is there already, do nothing."""
+        """Bring a network to a step by requests, answers, bus-offs, stalls and ticks; where it is there already, do nothing."""
         for _ in range(MOST_TURNS_OF_A_WAY):
             if self.network(index).step == step:
                 return
@@ -200,10 +205,13 @@ class Trace:
         raise ValueError(f"step {step} was not reached")
 
     def go_on(self, target: int, index: int) -> None:
-        """A bus-off, or one replied tick more, on the way to the target step."""
+        """A bus-off, a stall, or one replied tick more, on the way to the target step."""
         step = self.network(index).step
         if step in FULL_STEPS and target in RECOVERY_STEPS:
             self.bus_off(index)
+            return
+        if step in FULL_STEPS and target in RESET_STEPS:
+            self.stall(index)
             return
         self.turn_to(wanted_on_the_way(step, target), index)
         if step == Step.CONTROLLERS_SLEEP and target == Step.CHECK_WAKE_AGAIN:

@@ -1,11 +1,12 @@
 """The output of `cantrace` in words: beside each line the event that it belongs to, and what it says."""
 
-from typing import List, NamedTuple
+from typing import List, NamedTuple, Set
 
 from recording_fields import FIRST_EVENT_TAG, LONGEST_RECORDING, Fault, Field, Tag
-from recording_output import ACCEPTED, EVENTS_WITH_RECORDS, TOO_LONG, ConfigLine, EventLine, Output, Recording, read_output
+from recording_output import ACCEPTED, EVENTS_WITH_RECORDS, TOO_LONG, ConfigLine, EventLine, Output, Recording, ids_in, read_output
 from recording_script import field_line
-from recording_words import CALL_REFUSALS, MODE_WORDS, SHEET_REFUSALS, event_words, record_words
+from recording_words import CALL_REFUSALS, MODE_WORDS, OF_A_RESET, SHEET_REFUSALS, STALL_ADVICE, STALL_OUTLOOK, Kind, Record
+from recording_words import event_words, record_words
 
 WIDEST_LINE = 28
 GAP = "  "
@@ -60,16 +61,48 @@ def config_meanings(recording: Recording, config: ConfigLine) -> List[str]:
     return [f"accepted: {config.number} network" + ("" if config.number == 1 else "s")]
 
 
-def event_meanings(event: EventLine) -> List[str]:
+class Resets:
+    """The networks that are being reset: from a stall that is accepted to the next notice for the mode manager, which says how it ends."""
+
+    def __init__(self, recording: Recording) -> None:
+        self.handle_of = {
+            controller: ids_in(fields, Tag.HANDLE)[0] for fields in recording.networks for controller in ids_in(fields, Tag.CONTROLLER)
+        }
+        self.handles: Set[int] = set()
+
+    def record_words(self, record: Record) -> str:
+        """A record in a sentence; of a request to a controller also whether it is for the reset."""
+        if record.kind == Kind.MODE_MANAGER:
+            self.handles.discard(record.target)
+        belongs = record.kind == Kind.CONTROLLER_MODE and self.handle_of[record.target] in self.handles
+        return record_words(record) + (OF_A_RESET if belongs else "")
+
+    def stall_meanings(self, event: EventLine) -> List[str]:
+        """What an accepted stall says, and what comes of it."""
+        self.handles.add(event.field.value[0])
+        return [record_words(record) for record in event.records] + [STALL_OUTLOOK]
+
+
+def refusal_meanings(event: EventLine) -> List[str]:
+    """Why an event is refused, and of a stall what to do."""
+    meanings = [refusal_words(event.answer, CALL_REFUSALS[event.answer])]
+    if event.field.tag == Tag.STALL and event.answer in STALL_ADVICE:
+        meanings.append(STALL_ADVICE[event.answer])
+    return meanings
+
+
+def event_meanings(resets: Resets, event: EventLine) -> List[str]:
     """What the answer to an event, and what follows it, say."""
     if event.answer != ACCEPTED:
-        return [refusal_words(event.answer, CALL_REFUSALS[event.answer])]
+        return refusal_meanings(event)
     if event.polled is not None:
         return [f"the mode last told: {MODE_WORDS[event.polled]}"]
     if event.field.tag == Tag.REQUEST:
         return ["accepted: stored, and the next tick looks at it"]
+    if event.field.tag == Tag.STALL:
+        return resets.stall_meanings(event)
     if event.field.tag in EVENTS_WITH_RECORDS:
-        return [record_words(record) for record in event.records] or ["accepted: nothing is handed out"]
+        return [resets.record_words(record) for record in event.records] or ["accepted: nothing is handed out"]
     return ["taken"]
 
 
@@ -89,7 +122,8 @@ def rows_of(recording: Recording, output: Output) -> List[Row]:
     if output.config is None:
         return [Row(TOO_LONG, f"recording of {recording.length} bytes", [f"more than {LONGEST_RECORDING} bytes: nothing is run"])]
     rows = [Row(output.config.line, f"sheet of {recording.sheet_bytes} bytes", config_meanings(recording, output.config))]
-    rows += [Row(event.line, event_words(event.field), event_meanings(event)) for event in output.events]
+    resets = Resets(recording)
+    rows += [Row(event.line, event_words(event.field), event_meanings(resets, event)) for event in output.events]
     return rows + [Row(line, shown(field), [stop_words(field)]) for field, line in zip(recording.stop, output.stop)]
 
 

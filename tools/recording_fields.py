@@ -27,6 +27,7 @@ class Tag:
     CHECK_DONE = 0x15
     TICK = 0x16
     POLL = 0x17
+    STALL = 0x18
 
 
 VALUE_BYTES = {
@@ -44,6 +45,7 @@ VALUE_BYTES = {
     Tag.CHECK_DONE: 1,
     Tag.TICK: 0,
     Tag.POLL: 1,
+    Tag.STALL: 1,
 }
 
 

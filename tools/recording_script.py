@@ -78,6 +78,7 @@ FORMS = {
     "check-done": Form(Tag.CHECK_DONE, [TRANSCEIVER]),
     "tick": Form(Tag.TICK),
     "poll": Form(Tag.POLL, [HANDLE]),
+    "stall": Form(Tag.STALL, [HANDLE]),
 }
 NAME_OF_TAG = {form.tag: name for name, form in FORMS.items()}
 WITHOUT_PARTIAL = field_bytes(Tag.PARTIAL, bytes([0]))

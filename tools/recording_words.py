@@ -49,9 +49,19 @@ CALL_REFUSALS = {
     0x04: "unknown controller",
     0x05: "unknown transceiver",
     0x21: "a mode or ok value is out of its range",
-    0x08: "silent is asked for, and the network is not up (steps 4 to 8)",
-    0x22: "an answer or bus-off that the step does not take",
+    0x08: "silent is asked for, and the network is not up (steps 4 to 8, 15, 16)",
+    0x22: "an answer, bus-off or stall that the step does not take",
 }
+# R9, R10, R15: what to do about a stall that is refused.
+STALL_ADVICE = {
+    0x20: "it has not happened: lend 3 bytes or more, and make it again",
+    0x03: "compare the caller's handles with the sheet",
+    0x22: "it is taken only while full is told: if sending sticks then, make it again",
+}
+# X3: what a stall brings.
+STALL_OUTLOOK = "the next tick asks all its controllers to stop, a later one to start"
+# T29, T30: behind a request that belongs to the reset.
+OF_A_RESET = ", for the reset"
 SHEET_REFUSALS = {
     0x30: "a field is cut, or the last network is unfinished",
     0x31: "unknown tag",
@@ -94,6 +104,7 @@ EVENT_WORDS = {
     Tag.CHECK_DONE: "wake flag of transceiver {0} checked",
     Tag.TICK: "tick",
     Tag.POLL: "poll of network {0}",
+    Tag.STALL: "sending of network {0} has stuck",
 }
 MODE_WORDS = {Mode.NO: "no communication", Mode.SILENT: "silent", Mode.FULL: "full"}
 

@@ -27,6 +27,7 @@ ID_TAG = {
     Tag.CLEAR_DONE: Tag.TRANSCEIVER,
     Tag.CHECK_DONE: Tag.TRANSCEIVER,
     Tag.POLL: Tag.HANDLE,
+    Tag.STALL: Tag.HANDLE,
 }
 EVENTS_BEFORE = 2
 EVENTS_AFTER = 1
@@ -253,7 +254,7 @@ def arrow(x: int, to_x: int, y: int, words: str, colour: str) -> List[str]:
 
 def incoming_arrow(event: Event, y: int) -> List[str]:
     """The arrow of an event that is no tick: from above, or from below."""
-    colour = RED if event.tag == Tag.BUS_OFF else BLACK
+    colour = RED if event.tag in (Tag.BUS_OFF, Tag.STALL) else BLACK
     if ID_TAG[event.tag] == Tag.HANDLE:
         return arrow(ABOVE, BAND_LEFT, y, event_in_words(event), colour)
     return arrow(BELOW, BAND_RIGHT, y, event_in_words(event), colour)
@@ -272,6 +273,8 @@ def arrows_of(event: Event, y: int) -> List[str]:
         drawn += incoming_arrow(event, y)
     if event.tag == Tag.BUS_OFF:
         below += LINE
+    if event.tag == Tag.STALL:
+        above += LINE
     for record in event.records:
         if goes_up(record):
             drawn += arrow(BAND_LEFT, ABOVE, above, record_in_words(record), BLACK)
@@ -283,9 +286,12 @@ def arrows_of(event: Event, y: int) -> List[str]:
 
 
 def lines_needed(event: Event) -> int:
-    """The lines of a row: the larger number of arrows on one side, and two for a row's name and its note."""
+    """The lines of a row: the larger number of arrows on one side, and two for a row's name and its note. A stall comes in where its record
+    goes out."""
     above = sum(goes_up(record) for record in event.records)
     below = len(event.records) - above
+    if event.tag == Tag.STALL and above:
+        above += 1
     return max(above, below, 2 if above else 1)
 
 

@@ -3,8 +3,8 @@ use Rattle.lists.proofs.Basics.{ℕ, _≡_, refl, ap, _∙_, List, [], true, le
 use Rattle.lists.specs.Lists.{Bytes}
 use Rattle.records.specs.Records.{bytes as bytesOf}
 use Rattle.slots.specs.declared.Manager.{Manager}
-use Rattle.slots.specs.Calls.{Call, read, write, start, request, poll, busOff, answer, transceiverMode, clearDone, checkDone, tick, handedOut}
-use Rattle.slots.specs.Calls.{bufferWith, writtenInto}
+use Rattle.slots.specs.Calls.{Call, read, write, start, request, poll, busOff, stall, answer, transceiverMode, clearDone, checkDone, tick}
+use Rattle.slots.specs.Calls.{handedOut, bufferWith, writtenInto}
 use Rattle.calls.specs.Histories.{countsRecords}
 use Rattle.calling.specs.declared.Task.{Task}
 use Rattle.calling.specs.Returned.{callOf, lentAfter}
@@ -22,6 +22,7 @@ module _ (m : Manager) (bytes before : List ℕ) (P : Call → List ℕ → Type
   by-task (Task.Request handle mode) = records (request handle mode) refl
   by-task (Task.Poll handle) = records (poll handle) refl
   by-task (Task.BusOff controller) = records (busOff controller (length before)) refl
+  by-task (Task.Stall handle) = records (stall handle (length before)) refl
   by-task (Task.Answer controller mode ok) = records (answer controller mode ok) refl
   by-task (Task.TransceiverMode transceiver mode) = records (transceiverMode transceiver mode) refl
   by-task (Task.ClearDone transceiver) = records (clearDone transceiver) refl
@@ -60,6 +61,7 @@ made start f = plain Task.Start
 made (request handle mode) f = plain (Task.Request handle mode)
 made (poll handle) f = plain (Task.Poll handle)
 made (busOff controller room) f = lent (Task.BusOff controller) (busOff controller) (λ b. refl) room
+made (stall handle room) f = lent (Task.Stall handle) (stall handle) (λ b. refl) room
 made (answer controller mode ok) f = plain (Task.Answer controller mode ok)
 made (transceiverMode transceiver mode) f = plain (Task.TransceiverMode transceiver mode)
 made (clearDone transceiver) f = plain (Task.ClearDone transceiver)

@@ -7,8 +7,8 @@ use lib.ListN.{length}
 use Rattle.lists.specs.Lists.{Bytes}
 use Rattle.slots.specs.declared.Manager.{Manager}
 use Rattle.slots.specs.declared.Outcome.{Outcome}
-use Rattle.slots.specs.Calls.{Call, read, write, start, request, poll, busOff, answer, transceiverMode, clearDone, checkDone, tick, newManager}
-use Rattle.slots.specs.Calls.{outcome, handedOut, bufferWith, writtenInto}
+use Rattle.slots.specs.Calls.{Call, read, write, start, request, poll, busOff, stall, answer, transceiverMode, clearDone, checkDone, tick}
+use Rattle.slots.specs.Calls.{newManager, outcome, handedOut, bufferWith, writtenInto}
 use Rattle.calling.specs.declared.Task.{Task}
 
 -- a manager as it comes before any call
@@ -23,6 +23,7 @@ callOf Task.Start bytes buffer = start
 callOf (Task.Request handle mode) bytes buffer = request handle mode
 callOf (Task.Poll handle) bytes buffer = poll handle
 callOf (Task.BusOff controller) bytes buffer = busOff controller (length buffer)
+callOf (Task.Stall handle) bytes buffer = stall handle (length buffer)
 callOf (Task.Answer controller mode ok) bytes buffer = answer controller mode ok
 callOf (Task.TransceiverMode transceiver mode) bytes buffer = transceiverMode transceiver mode
 callOf (Task.ClearDone transceiver) bytes buffer = clearDone transceiver
@@ -37,6 +38,7 @@ lentAfter m start buffer = buffer
 lentAfter m (request handle mode) buffer = buffer
 lentAfter m (poll handle) buffer = buffer
 lentAfter m (busOff controller room) buffer = bufferWith buffer (handedOut m (busOff controller room))
+lentAfter m (stall handle room) buffer = bufferWith buffer (handedOut m (stall handle room))
 lentAfter m (answer controller mode ok) buffer = buffer
 lentAfter m (transceiverMode transceiver mode) buffer = buffer
 lentAfter m (clearDone transceiver) buffer = buffer

@@ -14,6 +14,7 @@ pub enum Task {
     Request { handle: u8, mode: u8 },
     Poll { handle: u8 },
     BusOff { controller: u8 },
+    Stall { handle: u8 },
     Answer { controller: u8, mode: u8, ok: u8 },
     TransceiverMode { transceiver: u8, mode: u8 },
     ClearDone { transceiver: u8 },
@@ -39,6 +40,7 @@ pub fn make(manager: Manager, task: Task, bytes: &[u8], buffer: &mut [u8]) -> Ou
         Task::Request { handle, mode } => manager::request(manager, handle, mode),
         Task::Poll { handle } => manager::poll(manager, handle),
         Task::BusOff { controller } => manager::bus_off(manager, controller, buffer),
+        Task::Stall { handle } => manager::stall(manager, handle, buffer),
         Task::Answer {
             controller,
             mode,

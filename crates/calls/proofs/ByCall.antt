@@ -1,7 +1,7 @@
 -- A call of the manager, taken apart once: by the stage, by the slot that its id names, and by what the network makes of it. Whatever holds of each
 -- of these cases holds of every call.
 use Rattle.lists.proofs.Basics.{ℕ, zero, suc, _*_, _<_, _≤_, arith, ltb-false, _≡_, refl, sym, ap, subst, _∙_, List, [], _∷_, Bool, true, false}
-use Rattle.lists.proofs.Basics.{cond, true≢false, _||_, leb, ltb, length, getD, length-take, getD-take}
+use Rattle.lists.proofs.Basics.{cond, true≢false, _||_, _&&_, eqb, leb, ltb, length, getD, length-take, getD-take}
 use Rattle.lists.specs.Lists.{any, first}
 use Rattle.lists.proofs.Any.{first-below, first-passes}
 use Rattle.records.specs.declared.Record.{Record}
@@ -17,8 +17,9 @@ use Rattle.network.specs.declared.Hit.{Hit}
 use Rattle.network.specs.declared.Part.{Part}
 use Rattle.network.specs.declared.Reply.{Reply}
 use Rattle.network.specs.declared.Report.{Report}
-use Rattle.network.specs.BusOff.{hitOf}
-use Rattle.network.specs.Parts.{Sight, aBusOff, anAnswer, aRequest, aReport, nothing, isTaken, outOfRange, reportPart, hitPart, partOf, recordsOf}
+use Rattle.network.specs.declared.State.{State}
+use Rattle.network.specs.declared.Trouble.{Trouble}
+use Rattle.network.specs.Parts.{Sight, anAnswer, aRequest, aReport, nothing, sightOf, isTaken, outOfRange, reportPart, hitPart, partOf, recordsOf}
 use Rattle.lists.proofs.Tests.{split}
 use Rattle.network_theorems.proofs.Parts.{by-request, by-report, by-answer, refused-stays}
 use Rattle.slots.specs.declared.Stage.{Stage}
@@ -28,11 +29,11 @@ use Rattle.slots.specs.declared.Answer.{Answer}
 use Rattle.slots.specs.declared.Manager.{Manager}
 use Rattle.slots.specs.declared.Outcome.{Outcome}
 use Rattle.slots.specs.Manager.{answerNumber, networksOf, settingsOf, networkAt, stateAt, withState, refused, accepted, allRecords, tickNeeds}
-use Rattle.slots.specs.Calls.{Call, read, write, start, request, poll, busOff, answer, transceiverMode, clearDone, checkDone, tick, byStage}
+use Rattle.slots.specs.Calls.{Call, read, write, start, request, poll, busOff, stall, answer, transceiverMode, clearDone, checkDone, tick, byStage}
 use Rattle.slots.specs.Calls.{afterReading, readInto, writingOf, startedFrom, unknown, slotAt, slotOf, bySlot, answerOf, settled, slotOutcome}
-use Rattle.slots.specs.Calls.{named, slotRecords, polled, gateOf, byGate, gateRecords, busOffNeeds, allTicked, outcome, handedOut}
-use Rattle.manager.proofs.Ticks.{hit-few}
-use Rattle.calls.specs.Histories.{isAccepted, to, addressOf, seenAs, refusalsOf, roomOf}
+use Rattle.slots.specs.Calls.{named, slotRecords, polled, gateOf, byGate, gateRecords, troubleNeeds, allTicked, outcome, handedOut}
+use Rattle.manager.proofs.Ticks.{hit-fits, trouble-part, trouble-records}
+use Rattle.calls.specs.Histories.{isAccepted, to, toNobody, addressOf, seenAs, refusalsOf, roomOf}
 
 -- ---- which network has an id
 -- the network of a slot in use
@@ -229,14 +230,41 @@ module _ (m : Manager) (P : Call → Outcome → List Record → Type 0) (by : B
   unfolding partOf reportPart
   report-declined c report out not i = by-report (stateAt m i) (Declined c) report _ (λ _ e. absurd (true≢false e)) (λ e _. out e) (λ _ _. not)
 
-  hit-declined : (c room i : ℕ) → Declined (busOff c room) (partOf (networkAt m i) (stateAt m i) aBusOff)
-  unfolding partOf hitPart any
-  hit-declined c room i = by-kind (hitOf (stateAt m i .step))
+  hit-declined : (c : Call) (s : State) → Refusal c Answer.NotTaken → (hit : Hit) → Declined c (hitPart s hit)
+  unfolding hitPart
+  hit-declined c s not Hit.Recover e = absurd (true≢false e)
+  hit-declined c s not Hit.Restart e = absurd (true≢false e)
+  hit-declined c s not Hit.Reset e = absurd (true≢false e)
+  hit-declined c s not Hit.NotTaken e = not
+
+  -- ---- a call by which trouble is reported: it names an id, and is lent a buffer
+  record Reports (c : Call) (room : ℕ) (id : Id) (trouble : Trouble) : Type 0 where
+    names : (number : ℕ) →
+        addressOf number c ≡ cond (ltb room (troubleNeeds trouble) && eqb 0x20 number) toNobody (to id (sightOf trouble))
+    lent : roomOf c ≡ room
+    unready : Refusal c Answer.NotReady
+    short : Refusal c Answer.TooShort
+    nobody : Refusal c (unknown id)
+    not : Refusal c Answer.NotTaken
+
+  by-trouble : (c : Call) (room : ℕ) (id : Id) (trouble : Trouble) → Reports c room id trouble
+      → P c (byGate m (gateOf m room (troubleNeeds trouble)) (named m id (sightOf trouble)))
+      (gateRecords (gateOf m room (troubleNeeds trouble)) (slotRecords m (slotOf m id) (sightOf trouble)))
+  by-trouble c room id trouble r =
+      by-gate c room (troubleNeeds trouble) _ _ (r .unready) (r .short) (λ e n. ap (seenAs n) (r .names 0x20) ∙ rw e refl)
+      (λ s e. by-named c id (sightOf trouble) (record {
+        names = λ number. r .names number ∙ rw e refl;
+        unready = r .unready;
+        nobody = r .nobody;
+        declined = λ i. subst (Declined c) (trouble-part (networkAt m i) (stateAt m i) trouble) (hit-declined c (stateAt m i) (r .not) _);
+        fits = λ i. fits e (networkAt m i) (stateAt m i);
+      }))
     where
-      by-kind : (hit : Hit) → Declined (busOff c room) (hitPart (stateAt m i) hit)
-      by-kind Hit.Recover e = absurd (true≢false e)
-      by-kind Hit.Restart e = absurd (true≢false e)
-      by-kind Hit.NotTaken e = record { refused = refl; among = refl }
+      fits : ltb room (troubleNeeds trouble) ≡ false → (n : Network) (s : State) → 3 * length (recordsOf n s (sightOf trouble)) ≤ roomOf c
+      fits e n s =
+          let h : 3 * length (recordsOf n s (sightOf trouble)) ≤ troubleNeeds trouble =
+          subst (λ (rs : List Record). 3 * length rs ≤ troubleNeeds trouble) (trouble-records n s trouble) (hit-fits n trouble (s .step)) in
+          omega (arith, h, r .lent, ltb-false room (troubleNeeds trouble) e)
 
   -- ---- all calls
   -- whatever holds of each case holds of every call
@@ -258,16 +286,22 @@ module _ (m : Manager) (P : Call → Outcome → List Record → Type 0) (by : B
       (λ f. by .refuses (poll handle) Answer.NotReady (record { refused = refl; among = refl }) (λ s i h. refl))
       (λ f. by .refuses (poll handle) Answer.NoHandle (record { refused = refl; among = refl }) (λ s i h. refl))
       (λ i f. by .polls handle i f)
-  by-call (busOff c room) =
-      by-gate (busOff c room) room busOffNeeds _ _ (record { refused = refl; among = refl }) (record { refused = refl; among = refl })
-      (λ e n. rw e refl)
-      (λ s e. by-named (busOff c room) (Id.OfController c) aBusOff (record {
-        names = λ number. rw e refl;
-        unready = record { refused = refl; among = refl };
-        nobody = record { refused = refl; among = refl };
-        declined = hit-declined c room;
-        fits = λ i. omega (arith, hit-few (networkAt m i) (hitOf (stateAt m i .step)), ltb-false room 9 e);
-      }))
+  by-call (busOff c room) = by-trouble (busOff c room) room (Id.OfController c) Trouble.BusOff (record {
+    names = λ number. refl;
+    lent = refl;
+    unready = record { refused = refl; among = refl };
+    short = record { refused = refl; among = refl };
+    nobody = record { refused = refl; among = refl };
+    not = record { refused = refl; among = refl };
+  })
+  by-call (stall handle room) = by-trouble (stall handle room) room (Id.OfNetwork handle) Trouble.Stall (record {
+    names = λ number. refl;
+    lent = refl;
+    unready = record { refused = refl; among = refl };
+    short = record { refused = refl; among = refl };
+    nobody = record { refused = refl; among = refl };
+    not = record { refused = refl; among = refl };
+  })
   by-call (answer c mode ok) = quiet (answer c mode ok) (Id.OfController c) (anAnswer c mode ok)
       (record {
         names = λ number. refl;

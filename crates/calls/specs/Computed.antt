@@ -4,12 +4,12 @@ use Rattle.records.specs.Records.{bytes}
 use Rattle.settings.specs.Settings.{holderOf}
 use Rattle.sheet.specs.Bench.{computedReading}
 use Rattle.steps.specs.Decision.{decision}
-use Rattle.handing.specs.Handing.{requests, entering, enteringFull, enteringSilent, downNotices, goingDown, moveRecords, recovery}
+use Rattle.handing.specs.Handing.{requests, entering, enteringFull, enteringSilent, downNotices, goingDown, moveRecords, recovery, reset}
 use Rattle.network.specs.State.{started, wants}
 use Rattle.network.specs.Rules.{isDone, delayOf, moveOf}
 use Rattle.network.specs.Moving.{afterMove, tickState, tickRecords}
 use Rattle.network.specs.Answers.{takesReport, afterAnswer, afterReport}
-use Rattle.network.specs.BusOff.{hitOf, madeAnew, afterHit, hitRecords}
+use Rattle.network.specs.BusOff.{hitOf, stallOf, madeAnew, afterHit, hitRecords}
 use Rattle.network.specs.Parts.{wantedPart, requestPart, takenPart, reportPart, answerPart, hitPart, partOf, recordsOf}
 use Rattle.slots.specs.declared.Manager.{Manager}
 use Rattle.slots.specs.declared.Outcome.{Outcome}
@@ -19,7 +19,7 @@ use Rattle.slots.specs.Calls.{Call, readInto, slotOf, settled, slotOutcome, nam
 -- what a call gives, with all open that it takes to compute it
 unfoldable pub computedOutcome : Manager → Call → Outcome
 unfolding computedReading any every first bytes holderOf decision requests entering enteringFull enteringSilent downNotices goingDown moveRecords
-    recovery started wants isDone delayOf moveOf afterMove tickState tickRecords takesReport afterAnswer afterReport hitOf madeAnew afterHit
-    hitRecords wantedPart requestPart takenPart reportPart answerPart hitPart partOf recordsOf each allRecords shares tickNeeds readInto slotOf
-    settled slotOutcome named gateOf allTicked outcome handedOut run
+    recovery reset started wants isDone delayOf moveOf afterMove tickState tickRecords takesReport afterAnswer afterReport hitOf stallOf madeAnew
+    afterHit hitRecords wantedPart requestPart takenPart reportPart answerPart hitPart partOf recordsOf each allRecords shares tickNeeds readInto
+    slotOf settled slotOutcome named gateOf allTicked outcome handedOut run
 computedOutcome m c = outcome m c

@@ -11,13 +11,13 @@ use Rattle.settings.specs.declared.Network.{Network}
 use Rattle.settings.specs.declared.Id.{Id}
 use Rattle.settings.specs.Settings.{has}
 use Rattle.network.specs.declared.Report.{Report}
-use Rattle.network.specs.Parts.{Sight, aTick, aBusOff, anAnswer, aRequest, aReport, nothing}
+use Rattle.network.specs.Parts.{Sight, aTick, aBusOff, aStall, anAnswer, aRequest, aReport, nothing}
 use Rattle.slots.specs.declared.Stage.{Stage}
 use Rattle.slots.specs.declared.Answer.{Answer}
 use Rattle.slots.specs.declared.Manager.{Manager}
 use Rattle.slots.specs.Manager.{answerNumber}
-use Rattle.slots.specs.Calls.{Call, read, write, start, request, poll, busOff, answer, transceiverMode, clearDone, checkDone, tick, newManager}
-use Rattle.slots.specs.Calls.{busOffNeeds, outcome, handedOut}
+use Rattle.slots.specs.Calls.{Call, read, write, start, request, poll, busOff, stall, answer, transceiverMode, clearDone, checkDone, tick}
+use Rattle.slots.specs.Calls.{newManager, busOffNeeds, stallNeeds, outcome, handedOut}
 
 -- R1: the one answer that is no refusal has the number 0
 abbrev pub isAccepted : Answer → Bool
@@ -60,7 +60,8 @@ pub data Address : Type 0 where
   toAll : Address
   toNobody : Address
 
--- T2, B1: by the number of its answer; a tick that was refused concerns nobody, nor does a bus-off that was refused with 20 and lent too few bytes
+-- T2, B1, X1: by the number of its answer; a tick that was refused concerns nobody, nor does a bus-off or a stall that was refused with 20 and lent
+-- too few bytes
 abbrev pub addressOf : ℕ → Call → Address
 addressOf number (read bytes) = toNobody
 addressOf number (write room) = toNobody
@@ -69,6 +70,7 @@ addressOf number (request handle mode) = to (Id.OfNetwork handle) (aRequest mode
 addressOf number (poll handle) = toNobody
 addressOf number (busOff controller room) =
     cond (ltb room busOffNeeds && eqb 0x20 number) toNobody (to (Id.OfController controller) aBusOff)
+addressOf number (stall handle room) = cond (ltb room stallNeeds && eqb 0x20 number) toNobody (to (Id.OfNetwork handle) aStall)
 addressOf number (answer controller mode ok) = to (Id.OfController controller) (anAnswer controller mode ok)
 addressOf number (transceiverMode transceiver mode) = to (Id.OfTransceiver transceiver) (aReport (Report.Transceiver mode))
 addressOf number (clearDone transceiver) = to (Id.OfTransceiver transceiver) (aReport Report.Cleared)
@@ -91,6 +93,7 @@ refusalsOf start = 0x01 ∷ 0x0B ∷ []
 refusalsOf (request handle mode) = 0x01 ∷ 0x03 ∷ 0x21 ∷ 0x08 ∷ []
 refusalsOf (poll handle) = 0x01 ∷ 0x03 ∷ []
 refusalsOf (busOff controller room) = 0x01 ∷ 0x20 ∷ 0x04 ∷ 0x22 ∷ []
+refusalsOf (stall handle room) = 0x01 ∷ 0x20 ∷ 0x03 ∷ 0x22 ∷ []
 refusalsOf (answer controller mode ok) = 0x01 ∷ 0x04 ∷ 0x21 ∷ 0x22 ∷ []
 refusalsOf (transceiverMode transceiver mode) = 0x01 ∷ 0x05 ∷ 0x21 ∷ 0x22 ∷ []
 refusalsOf (clearDone transceiver) = 0x01 ∷ 0x05 ∷ 0x22 ∷ []
@@ -111,6 +114,7 @@ roomOf start = 0
 roomOf (request handle mode) = 0
 roomOf (poll handle) = 0
 roomOf (busOff controller room) = room
+roomOf (stall handle room) = room
 roomOf (answer controller mode ok) = 0
 roomOf (transceiverMode transceiver mode) = 0
 roomOf (clearDone transceiver) = 0
@@ -125,6 +129,7 @@ countsRecords start = true
 countsRecords (request handle mode) = true
 countsRecords (poll handle) = true
 countsRecords (busOff controller room) = true
+countsRecords (stall handle room) = true
 countsRecords (answer controller mode ok) = true
 countsRecords (transceiverMode transceiver mode) = true
 countsRecords (clearDone transceiver) = true

@@ -1,4 +1,4 @@
-// Writes all 1,080 decisions of the tick: a line for each step, with the step and its 72 next steps, each choice in this order: wanted no,
+// Writes all 1,224 decisions of the tick: a line for each step, with the step and its 72 next steps, each choice in this order: wanted no,
 // silent, full; done, not done; a refusal present, absent; the timer reached, not; no transceiver, a transceiver, a transceiver with partial
 // networking. The last varies fastest.
 use records::Mode;
@@ -7,7 +7,7 @@ use steps::Outfit;
 use steps::Step;
 
 // How many choices there are of each.
-const STEPS: u8 = 15;
+const STEPS: u8 = 17;
 
 const MODES: u8 = 3;
 
@@ -39,7 +39,9 @@ fn following(step: Step) -> Step {
         Step::TransceiverStandby => Step::ControllersSleep,
         Step::ControllersSleep => Step::CheckWake,
         Step::CheckWake => Step::CheckWakeAgain,
-        Step::CheckWakeAgain => Step::NoCommunication,
+        Step::CheckWakeAgain => Step::ResetStopped,
+        Step::ResetStopped => Step::ResetStarted,
+        Step::ResetStarted => Step::NoCommunication,
     }
 }
 

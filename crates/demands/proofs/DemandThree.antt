@@ -18,8 +18,9 @@ use Rattle.network_demands.specs.Words.{told}
 use Rattle.network_demands.specs.Own.{Ran}
 use Rattle.network_demands.proofs.Follows.{told-follows}
 use Rattle.network_demands.proofs.Told.{told-exactly, told-no, first-sentence}
-use Rattle.network_demands.proofs.Second.{late-answers, second-sentence}
+use Rattle.network_demands.proofs.Second.{late-answers, late-after-stall, second-sentence}
 use Rattle.network_demands.proofs.Third.{third-sentence, said-from}
+use Rattle.network_demands.proofs.ThirdTick.{on-the-third-tick, said-from-the-third}
 use Rattle.demands.specs.View.{viewOf, viewsOf}
 use Rattle.demands.specs.Demands.{Begun, Demand3}
 use Rattle.demands.proofs.Parts.{own-slot}
@@ -57,6 +58,12 @@ module _ (m₀ : Manager) (b₀ : Begun m₀) (i : ℕ) (h₀ : i < length (netw
   split : (m : Manager) (s : History) (b : Entry) (h : History) → Since m₀ m (s ++ (b ∷ h)) → Ran n (viewsOf n s ++ (viewOf n b ∷ viewsOf n h))
   split m s b h r = subst (Ran n) (views-append n s (b ∷ h)) (ran-since m₀ b₀ i h₀ m (s ++ (b ∷ h)) r)
 
+  -- with one call more
+  split-last : (m : Manager) (t : Entry) (s : History) (b : Entry) (h : History) → Since m₀ m (t ∷ (s ++ (b ∷ h)))
+      → Ran n (viewOf n t ∷ (viewsOf n s ++ (viewOf n b ∷ viewsOf n h)))
+  split-last m t s b h r =
+      subst (λ (l : _). Ran n (viewOf n t ∷ l)) (views-append n s (b ∷ h)) (ran-since m₀ b₀ i h₀ m (t ∷ (s ++ (b ∷ h))) r)
+
   range : InRange n
   range = in-range m₀ b₀ i h₀
 
@@ -71,10 +78,11 @@ module _ (m₀ : Manager) (b₀ : Begun m₀) (i : ℕ) (h₀ : i < length (netw
     delayed = λ m s b h r. second-sentence n range apart (viewsOf n s) (viewOf n b) (viewsOf n h) (split m s b h r);
     late-answers = λ m s b h r. late-answers n range apart (viewsOf n s) (viewOf n b) (viewsOf n h) (split m s b h r);
     ticks = λ m t h s room q l. rw (q, last-ticked m₀ m (t ∷ h) b₀ s t h refl room q (rw (tick-needs-paper m₀ (sound m₀ b₀)) l)) refl;
-    on-just-that-tick = λ m t s b h r.
-        third-sentence n range apart (viewOf n t) (viewsOf n s) (viewOf n b) (viewsOf n h)
-        (subst (λ (l : _). Ran n (viewOf n t ∷ l)) (views-append n s (b ∷ h)) (ran-since m₀ b₀ i h₀ m (t ∷ (s ++ (b ∷ h))) r));
+    on-just-that-tick = λ m t s b h r. third-sentence n range apart (viewOf n t) (viewsOf n s) (viewOf n b) (viewsOf n h) (split-last m t s b h r);
     said-from = λ m s b h r v i. said-from n range apart (viewOf n b) (viewsOf n h) v (viewsOf n s) (split m s b h r) v i;
+    late-after-stall = λ m s b h r. late-after-stall n range apart (viewsOf n s) (viewOf n b) (viewsOf n h) (split m s b h r);
+    on-the-third-tick = λ m t s b h r. on-the-third-tick n range apart (viewOf n t) (viewsOf n s) (viewOf n b) (viewsOf n h) (split-last m t s b h r);
+    said-from-the-third = λ m s b h r. said-from-the-third n range apart (viewOf n b) (viewsOf n h) (viewsOf n s) (split m s b h r);
   }
 
   -- what poll answers is the mode last told, as it is read off the records

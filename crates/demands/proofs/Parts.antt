@@ -13,8 +13,9 @@ use Rattle.network.specs.declared.Hit.{Hit}
 use Rattle.network.specs.declared.Part.{Part}
 use Rattle.network.specs.Rules.{moveOf}
 use Rattle.network.specs.Moving.{tickState, tickRecords}
-use Rattle.network.specs.BusOff.{hitOf, afterHit}
-use Rattle.network.specs.Parts.{Sight, aTick, aBusOff, anAnswer, aRequest, aReport, nothing, isTaken, hitReply, hitPart, partOf, recordsOf}
+use Rattle.network.specs.BusOff.{hitOf, stallOf, afterHit}
+use Rattle.network.specs.Parts.{Sight, aTick, aBusOff, aStall, anAnswer, aRequest, aReport, nothing, isTaken, hitReply, hitPart, partOf}
+use Rattle.network.specs.Parts.{recordsOf}
 use Rattle.network_theorems.proofs.Theorems.{tick-own}
 use Rattle.network_theorems.proofs.Parts.{refused-stays, part-own}
 use Rattle.slots.specs.declared.Stage.{Stage}
@@ -32,15 +33,18 @@ use Rattle.demands.specs.View.{keep, viewOf}
 use Rattle.demands.proofs.Apart.{Once, has-once, own-once, keep-append, keep-all, keep-none}
 
 -- ---- the box of the demands plays the network's own part
+hit-is : (s : State) (hit : Hit) → hitPart s hit ≡ (let p : Part = record { reply = hitReply hit; state = hitAfter s hit } in p)
+unfolding hitPart afterHit
+hit-is s Hit.Recover = refl
+hit-is s Hit.Restart = refl
+hit-is s Hit.Reset = refl
+hit-is s Hit.NotTaken = refl
+
 played-is : (n : Network) (s : State) (sight : Sight) → partOf n s sight ≡ played n s sight
-unfolding played partOf tickState moveOf hitPart afterHit
+unfolding played partOf tickState moveOf
 played-is n s aTick = refl
-played-is n s aBusOff = by-kind (hitOf (s .step))
-  where
-    by-kind : (hit : Hit) → hitPart s hit ≡ (let p : Part = record { reply = hitReply hit; state = hitAfter s hit } in p)
-    by-kind Hit.Recover = refl
-    by-kind Hit.Restart = refl
-    by-kind Hit.NotTaken = refl
+played-is n s aBusOff = hit-is s (hitOf (s .step))
+played-is n s aStall = hit-is s (stallOf (s .step))
 played-is n s (anAnswer controller mode ok) = refl
 played-is n s (aRequest mode) = refl
 played-is n s (aReport report) = refl
@@ -50,6 +54,7 @@ handed-is : (n : Network) (s : State) (sight : Sight) → recordsOf n s sight �
 unfolding handed recordsOf tickRecords moveOf
 handed-is n s aTick = refl
 handed-is n s aBusOff = refl
+handed-is n s aStall = refl
 handed-is n s (anAnswer controller mode ok) = refl
 handed-is n s (aRequest mode) = refl
 handed-is n s (aReport report) = refl

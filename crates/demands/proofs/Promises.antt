@@ -6,7 +6,7 @@ use Rattle.slots.specs.declared.Manager.{Manager}
 use Rattle.slots.specs.Manager.{networksOf, networkAt}
 use Rattle.calls.specs.Histories.{Entry, History, Since}
 use Rattle.network_demands.specs.Own.{Ran}
-use Rattle.network_demands.proofs.Promises.{bus-offs, answers, requests}
+use Rattle.network_demands.proofs.Promises.{bus-offs, stalling, answers, requests}
 use Rattle.network_demands.proofs.Ticks.{ticks}
 use Rattle.demands.specs.View.{viewOf, viewsOf}
 use Rattle.demands.specs.Demands.{Begun}
@@ -27,6 +27,7 @@ module _ (m₀ : Manager) (b : Begun m₀) (i : ℕ) (l : i < length (networksOf
   pub promises : Promises m₀ n
   promises = record {
     bus-offs = λ m e h s. bus-offs n range (viewOf n e) (viewsOf n h) (ran m e h s);
+    stalls = λ m e h s. stalling n range (viewOf n e) (viewsOf n h) (ran m e h s);
     answers = λ m e h s. answers n range (viewOf n e) (viewsOf n h) (ran m e h s);
     requests = λ m e h s. requests n range (viewOf n e) (viewsOf n h) (ran m e h s);
     ticks = λ m e h s. ticks n range (distinct m₀ b i l) (viewOf n e) (viewsOf n h) (ran m e h s);

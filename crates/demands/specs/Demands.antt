@@ -1,5 +1,5 @@
 -- Demand 3 for a network of a started manager, over every history of calls since the start, as the network sees it. The words of its sentences stand
--- in `network_demands`. A history has the latest call first: in s ++ (b ∷ h), s follows the bus-off b, which follows h.
+-- in `network_demands`. A history has the latest call first: in s ++ (b ∷ h), s follows the bus-off or the stall b, which follows h.
 use Prim.Native.Nat.{ℕ, _+_, _*_, _≤_}
 use mathlib.Core.Path.{_≡_}
 use mathlib.Core.List.{_∷_, _++_}
@@ -12,7 +12,9 @@ use Rattle.slots.specs.Manager.{networksOf}
 use Rattle.slots.specs.Calls.{start, tick, outcome}
 use Rattle.calls.specs.Histories.{Entry, History, Since, Reached}
 use Rattle.manager_theorems.specs.Careful.{allControllers}
-use Rattle.network_demands.specs.Words.{ticked, Told, ToldNo, Answered, Delayed, LateAnswers, OnJustThatTick, SaidFrom}
+use Rattle.network_demands.specs.Words.{ticked, Told, ToldNo, Answered, Delayed, LateAnswers, OnJustThatTick, SaidFrom, LateAfterStall}
+use Rattle.network_demands.specs.Words.{OnTheThirdTick}
+use Rattle.network_demands.specs.Words.{SaidFromTheThird}
 use Rattle.demands.specs.View.{viewOf, viewsOf}
 
 -- a manager that was just started: calls led to one with a sheet, and its start was accepted
@@ -31,7 +33,8 @@ abbrev pub TickTaken : ℕ → Network → Entry → Type 0
 TickTaken needs n t = (room : ℕ) → t .call ≡ tick room → needs ≤ room → ticked (viewOf n t) ≡ true
 
 -- exactly when one network is said to be full, and when no was told last; the three sentences of demand 3, the second also for late answers; a tick
--- that is lent the bytes it needs is accepted; `said-from` is the third sentence again, by the mode last told
+-- that is lent the bytes it needs is accepted; `said-from` is the third sentence again, by the mode last told. The last three say of a stall what
+-- `late-answers`, `on-just-that-tick` and `said-from` say of a bus-off while up
 pub record Demand3 (m₀ : Manager) (n : Network) : Type 0 where
   pub told-exactly : (m : Manager) (h : History) → Since m₀ m h → Told n (viewsOf n h)
   pub told-no : (m : Manager) (h : History) → Since m₀ m h → ToldNo n (viewsOf n h)
@@ -45,3 +48,9 @@ pub record Demand3 (m₀ : Manager) (n : Network) : Type 0 where
       → OnJustThatTick n (viewOf n t) (viewsOf n s) (viewOf n b) (viewsOf n h)
   pub said-from : (m : Manager) (s : History) (b : Entry) (h : History) → Since m₀ m (s ++ (b ∷ h))
       → SaidFrom n (viewsOf n s) (viewOf n b) (viewsOf n h)
+  pub late-after-stall : (m : Manager) (s : History) (b : Entry) (h : History) → Since m₀ m (s ++ (b ∷ h))
+      → LateAfterStall n (viewsOf n s) (viewOf n b) (viewsOf n h)
+  pub on-the-third-tick : (m : Manager) (t : Entry) (s : History) (b : Entry) (h : History) → Since m₀ m (t ∷ (s ++ (b ∷ h)))
+      → OnTheThirdTick n (viewOf n t) (viewsOf n s) (viewOf n b) (viewsOf n h)
+  pub said-from-the-third : (m : Manager) (s : History) (b : Entry) (h : History) → Since m₀ m (s ++ (b ∷ h))
+      → SaidFromTheThird n (viewsOf n s) (viewOf n b) (viewsOf n h)

@@ -1,6 +1,6 @@
 -- Histories of the product in which the premises of demand 3 hold, all of them, by computation on the definitions: told full after the start, after a
 -- short and after a long delay, with refused ticks in between, with a late answer, with two controllers, with a transceiver and partial networking,
--- and of two networks.
+-- of two networks, and after a stall.
 use Prim.Native.Nat.{ℕ, _+_}
 use mathlib.Core.Path.{_≡_, refl}
 use mathlib.Core.List.{List, [], _∷_, _++_}
@@ -11,7 +11,8 @@ use Rattle.lists.specs.Lists.{any}
 use Rattle.handing.specs.Handing.{targetsOf, ownRecord}
 use Rattle.slots.specs.declared.Manager.{Manager}
 use Rattle.slots.specs.Manager.{networkAt}
-use Rattle.slots.specs.Calls.{Call, read, start, request, busOff, answer, transceiverMode, clearDone, checkDone, tick, newManager, outcome, run}
+use Rattle.slots.specs.Calls.{Call, read, start, request, busOff, stall, answer, transceiverMode, clearDone, checkDone, tick, newManager, outcome}
+use Rattle.slots.specs.Calls.{run}
 use Rattle.calls.specs.Histories.{Entry, entryOf, History, Since, goes}
 use Rattle.calls.specs.Computed.{computedOutcome}
 use Rattle.network_demands.specs.Words.{since, tally, ticked, toldBy, told, wanted, fell, shut, fellUp, falls, delayAt, waiting, fullAtTicks}
@@ -68,8 +69,8 @@ summaryOf n after b earlier =
       further-bus-off = any fell (viewsOf n after);
       shutdown = any (shut n) (viewsOf n after);
       full-wanted = fullAtTicks (viewsOf n after) (viewsOf n (b ∷ earlier));
-      prompt = promptly n (viewsOf n after);
-      not-ok = any (saysNo n) (viewsOf n after);
+      prompt = promptly 1 n (viewsOf n after);
+      not-ok = any (saysNo 1 n) (viewsOf n after);
       first-running = firstRunning n (viewsOf n after);
       told = Rattle.network_demands.specs.Words.told n (viewsOf n (after ++ (b ∷ earlier)));
       ticks = tally ticked (viewsOf n after);
@@ -214,3 +215,28 @@ pub full-of-the-second : summaryBy sheetOfTwo 1 (firstUp ++ (busOff 3 9 ∷ seco
     ((tick 21 ∷ both 1) ++ (tick 21 ∷ tick 21 ∷ tick 21 ∷ tick 21 ∷ tick 21 ∷ tick 21 ∷ [])) ≡ goodSummary 2 7 7
 unfolding computedHistory
 full-of-the-second = refl
+
+-- ---- a stall in step 5
+-- the reset: the tick that asks controller 3 to stop, its ok, the tick that asks it to start, its ok
+abbrev reset : List Call
+reset = tick 9 ∷ answer 3 0 1 ∷ tick 9 ∷ answer 3 1 1 ∷ []
+
+-- the mode last told after it, and after the third tick
+pub silent-by-a-stall : toldAfter benchSheet (step5 ++ (stall 7 3 ∷ reset)) ≡ 1
+unfolding computedHistory
+silent-by-a-stall = refl
+
+pub full-on-the-third-tick : toldAfter benchSheet (step5 ++ (stall 7 3 ∷ (reset ++ (tick 9 ∷ [])))) ≡ 2
+unfolding computedHistory
+full-on-the-third-tick = refl
+
+-- no bus-off is counted for it: the first bus-off after it brings the short delay, and full on the fourth tick
+pub short-delay-after-a-stall :
+    summaryBy benchSheet 0 (step5 ++ (stall 7 3 ∷ (reset ++ (tick 9 ∷ [])))) (busOff 3 9) (restarted ++ (tick 9 ∷ tick 9 ∷ [])) ≡ goodSummary 2 4 4
+unfolding computedHistory
+short-delay-after-a-stall = refl
+
+-- a bus-off in the midst of it is taken, counted, and begins a recovery: full on the fourth tick after it
+pub bus-off-in-a-reset : summaryBy benchSheet 0 (step5 ++ (stall 7 3 ∷ reset)) (busOff 3 9) (restarted ++ (tick 9 ∷ tick 9 ∷ [])) ≡ goodSummary 2 4 4
+unfolding computedHistory
+bus-off-in-a-reset = refl

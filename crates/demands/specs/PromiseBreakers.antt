@@ -14,11 +14,11 @@ use Rattle.settings.specs.declared.Transceiver.{Transceiver}
 use Rattle.settings.specs.declared.Network.{Network}
 use Rattle.network.specs.declared.Report.{Report}
 use Rattle.network.specs.declared.State.{State}
-use Rattle.network.specs.Parts.{Sight, aTick, aBusOff, anAnswer, aRequest, aReport, isTaken}
+use Rattle.network.specs.Parts.{Sight, aTick, aBusOff, aStall, anAnswer, aRequest, aReport, isTaken}
 use Rattle.calls.specs.Computed.{computedOutcome}
-use Rattle.network_demands.specs.Words.{Seen, OwnHistory, calledUp, awaited}
+use Rattle.network_demands.specs.Words.{Seen, OwnHistory, calledUp, awaited, afterStall}
 use Rattle.network_demands.specs.Own.{played, handed, stateOf, Ran}
-use Rattle.network_demands.specs.Promises.{saidOk, BusOffs, Answers, Requests, Ticks}
+use Rattle.network_demands.specs.Promises.{saidOk, BusOffs, Stalls, Answers, Requests, Ticks}
 use Rattle.demands.specs.WrongBoxes.{networkWith, network, taken, refused, ticks, computedWords}
 
 -- ---- the product's part
@@ -40,7 +40,7 @@ lives-ran n (sight ∷ earlier) = (record { accepted = λ c. refl; records = ref
 
 -- with all open that it takes to compute one, and what the promises say of it
 unfoldable computedLife : Network → List Sight → OwnHistory
-unfolding computedOutcome computedWords played handed stateOf lives calledUp awaited saidOk
+unfolding computedOutcome computedWords played handed stateOf lives calledUp awaited afterStall saidOk
 computedLife n l = lives n l
 
 -- ---- the wrong entry
@@ -74,6 +74,10 @@ full = aTick ∷ ok 1 ∷ starting
 -- a bus-off while up; then it is asked to start
 abbrev restarting : List Sight
 restarting = aTick ∷ aBusOff ∷ full
+
+-- a stall while full is told; then it is asked to stop
+abbrev resetting : List Sight
+resetting = aTick ∷ aStall ∷ full
 
 -- no is wanted, and it goes down
 abbrev falling : List Sight
@@ -132,8 +136,50 @@ module _ where
   unfolding computedLife
   bus-off-taken-going-down b = true≢false (b .accepted refl 3 refl)
 
+  -- `records`: a bus-off after a stall hands out nothing
+  pub bus-off-hidden-by-a-stall : BusOffs network (taken aBusOff []) (lives network resetting) → ⊥
+  unfolding computedLife
+  bus-off-hidden-by-a-stall b = let z : _≡_ {A = ℕ} 0 3 = ap length (b .records refl) in omega arith
+
+-- ---- stalls
+module _ where
+  -- `accepted`: a stall is taken where the network is silent
+  pub stall-taken-in-silent : Stalls network (taken aStall (row 6 7 1 ∷ [])) (lives network (aTick ∷ aRequest 1 ∷ full)) → ⊥
+  unfolding computedLife
+  stall-taken-in-silent s = true≢false (s .accepted refl)
+
+  -- `accepted`: a stall is taken during a recovery, and begins a reset
+  pub stall-taken-in-a-recovery : Stalls network (taken aStall (row 6 7 1 ∷ [])) (lives network restarting) → ⊥
+  unfolding computedLife
+  stall-taken-in-a-recovery s = true≢false (s .accepted refl)
+
+  -- `accepted`: a second stall begins the reset anew
+  pub stall-taken-twice : Stalls network (taken aStall (row 6 7 1 ∷ [])) (lives network resetting) → ⊥
+  unfolding computedLife
+  stall-taken-twice s = true≢false (s .accepted refl)
+
+  -- `accepted`: every stall is refused, also while full is told
+  pub stall-refused : Stalls network (refused aStall) (lives network full) → ⊥
+  unfolding computedLife
+  stall-refused s = false≢true (s .accepted refl)
+
+  -- `records`: a stall tells the mode manager too
+  pub stall-noted : Stalls network (taken aStall (row 6 7 1 ∷ row 7 7 1 ∷ [])) (lives network full) → ⊥
+  unfolding computedLife
+  stall-noted s = let z : _≡_ {A = ℕ} 2 1 = ap length (s .records refl) in omega arith
+
+  -- `records`: a stall is taken, and nobody hears of it
+  pub stall-untold : Stalls network (taken aStall []) (lives network full) → ⊥
+  unfolding computedLife
+  stall-untold s = let z : _≡_ {A = ℕ} 0 1 = ap length (s .records refl) in omega arith
+
 -- ---- answers
 module _ where
+  -- `controllers`: an answer to the request to stop from before the stall is taken
+  pub answer-kept-over-a-stall : Answers network (taken (ok 0) []) (lives network (aStall ∷ full)) → ⊥
+  unfolding computedLife
+  answer-kept-over-a-stall a = true≢false (a .controllers 3 0 1 refl refl)
+
   -- `controllers`: a not ok after an ok is refused
   pub not-ok-after-ok-refused : Answers network (refused (anAnswer 3 0 0)) (lives network (ok 0 ∷ stopping)) → ⊥
   unfolding computedLife
@@ -175,6 +221,11 @@ module _ where
   pub silent-refused-restarting : Requests network (refused (aRequest 1)) (lives network restarting) → ⊥
   unfolding computedLife
   silent-refused-restarting q = false≢true (q .accepted 1 refl)
+
+  -- `accepted`: silent is refused during a reset
+  pub silent-refused-resetting : Requests network (refused (aRequest 1)) (lives network resetting) → ⊥
+  unfolding computedLife
+  silent-refused-resetting q = false≢true (q .accepted 1 refl)
 
 -- ---- ticks
 module _ where
@@ -305,6 +356,16 @@ module _ where
   unfolding computedLife
   start-before-normal t = false≢true (t .starts 3 refl .prepared refl .normal 5 refl)
 
+  -- `starts`: after a stall the controller is asked to start at once, and was not stopped
+  pub start-without-a-stop : Ticks network (ticks (row 1 3 1 ∷ [])) (lives network (aStall ∷ full)) → ⊥
+  unfolding computedLife
+  start-without-a-stop t = false≢true (t .starts 3 refl .stopped refl refl 3 refl)
+
+  -- `starts`: it is asked to start though it refused to stop
+  pub start-after-a-refusal : Ticks network (ticks (row 1 3 1 ∷ [])) (lives network (anAnswer 3 0 0 ∷ resetting)) → ⊥
+  unfolding computedLife
+  start-after-a-refusal t = false≢true (t .starts 3 refl .stopped refl refl 3 refl)
+
   -- `starts`: it is asked to start once more though no is wanted
   pub start-though-no-is-wanted : Ticks network (ticks (row 1 3 1 ∷ [])) (lives network (aRequest 0 ∷ starting)) → ⊥
   unfolding computedLife
@@ -323,4 +384,4 @@ module _ where
   -- `none`: the next request goes out with the answer
   pub request-by-the-answer : Ticks network (taken (ok 0) (row 1 3 1 ∷ [])) (lives network stopping) → ⊥
   unfolding computedLife
-  request-by-the-answer t = let z : _≡_ {A = ℕ} 1 0 = ap length (t .none refl refl) in omega arith
+  request-by-the-answer t = let z : _≡_ {A = ℕ} 1 0 = ap length (t .none refl refl refl) in omega arith

@@ -3,19 +3,20 @@
 use Prim.Native.Nat.{ℕ, _≤_}
 use native.Mathlib.Omega.{arith}
 use mathlib.Core.Path.{_≡_, refl, sym, _∙_}
-use mathlib.Core.List.{List, [], _∷_}
+use mathlib.Core.List.{List, [], _∷_, _++_}
 use mathlib.Core.Bool.{Bool, true, false, true≢false, false≢true}
 use Rattle.lists.specs.Lists.{any, every}
 use Rattle.records.specs.declared.Record.{Record}
 use Rattle.records.specs.Records.{handed}
 use Rattle.settings.specs.declared.Network.{Network}
 use Rattle.settings.specs.declared.Transceiver.{Transceiver}
-use Rattle.network.specs.Parts.{Sight, aTick, aBusOff, anAnswer, aRequest}
+use Rattle.network.specs.Parts.{Sight, aTick, aBusOff, aStall, anAnswer, aRequest}
 use Rattle.handing.specs.Handing.{targetsOf, ownRecord}
 use Rattle.slots.specs.Calls.{Call, request, answer, tick}
 use Rattle.calls.specs.Histories.{Entry, History}
 use Rattle.network_demands.specs.Words.{Seen, OwnHistory, since, tally, setback, toldBy, told, wanted, wantedAtTick, falls, owed, runs, firstRunning}
 use Rattle.network_demands.specs.Words.{waiting, fullAtTicks, promptly, Told, ToldNo, Answered, Delayed, LateAnswers, OnJustThatTick, SaidFrom}
+use Rattle.network_demands.specs.Words.{LateAfterStall, OnTheThirdTick, SaidFromTheThird}
 use Rattle.demands.specs.View.{keep, viewsOf}
 use Rattle.demands.specs.Demands.{TickTaken}
 
@@ -88,6 +89,14 @@ quietBusOff = taken aBusOff []
 abbrev refusedBusOff : Seen
 refusedBusOff = refused aBusOff
 
+-- X2: a stall while full is told
+abbrev stall : Seen
+stall = taken aStall (handed 6 7 1 ∷ [])
+
+-- a tick that asks controller 3 to stop, and its ok
+abbrev stops : OwnHistory
+stops = taken (anAnswer 3 0 1) [] ∷ ticks (handed 1 3 0 ∷ []) ∷ []
+
 -- the network came up and is full
 abbrev cameUp : OwnHistory
 cameUp = tellsFull ∷ answers ∷ asks ∷ wants 2 ∷ []
@@ -155,6 +164,16 @@ module _ where
   unfolding computedWords
   second-not-asked a = false≢true (a refl 4 refl)
 
+  -- it takes a stall, and full stays told
+  pub told-stays-full-over-a-stall : Answered network (taken aStall [] ∷ cameUp) → ⊥
+  unfolding computedWords
+  told-stays-full-over-a-stall = not-running (taken aStall [] ∷ cameUp) refl refl
+
+  -- after a stall it stops the controllers, and tells full without starting them: their answers from before the stall count
+  pub answers-kept-over-a-stall : Answered network (tellsFull ∷ (stops ++ (stall ∷ cameUp))) → ⊥
+  unfolding computedWords
+  answers-kept-over-a-stall = not-running (tellsFull ∷ (stops ++ (stall ∷ cameUp))) refl refl
+
 -- an entry of the manager's history: a call, the number of its answer, the records handed out
 abbrev entry : Call → ℕ → List Record → Entry
 entry call number records = record { call = call; number = number; mode = 0; records = records }
@@ -201,12 +220,12 @@ module _ where
   -- where the answer is late it takes the delay from the bus-off on: all run before the fourth tick, and full is told on the fifth
   pub delay-from-the-bus-off : LateAnswers network (tellsFull ∷ waits ∷ answers ∷ asks ∷ asks ∷ asks ∷ []) busOff cameUp → ⊥
   unfolding computedWords
-  delay-from-the-bus-off late = true≢false (late refl refl refl .0)
+  delay-from-the-bus-off late = true≢false (late refl refl refl refl .0)
 
   -- it idles where the answer is late: all run before the third tick, and on the fifth full is not told
   pub idles-after-a-late-answer : LateAnswers network (ticks [] ∷ ticks [] ∷ waits ∷ answers ∷ asks ∷ asks ∷ []) busOff cameUp → ⊥
   unfolding computedWords
-  idles-after-a-late-answer late = false≢true (late refl refl refl .0)
+  idles-after-a-late-answer late = false≢true (late refl refl refl refl .0)
 
 -- ---- the third sentence
 -- three ticks after a bus-off, and the fourth
@@ -220,18 +239,59 @@ module _ where
   -- E15: the long delay begins where the count equals the threshold, or it idles after the first tick: on the fourth tick full is not told
   pub not-told : SaidFrom network (Four (ticks [])) busOff cameUp → ⊥
   unfolding computedWords
-  not-told said = let z : _≡_ {A = ℕ} 1 2 = said refl (record { full = refl; prompt = refl; only-ok = refl; calm = refl }) in omega arith
+  not-told said =
+      let z : _≡_ {A = ℕ} 1 2 = said refl (record { full = refl; prompt = refl; only-ok = refl; calm = refl; unstalled = refl }) in omega arith
 
   -- the same by what the fourth tick hands out
   pub not-on-that-tick : OnJustThatTick network (ticks []) three busOff cameUp → ⊥
   unfolding computedWords
-  not-on-that-tick just = false≢true (just refl (record { full = refl; prompt = refl; only-ok = refl; calm = refl }) refl)
+  not-on-that-tick just = false≢true (just refl (record { full = refl; prompt = refl; only-ok = refl; calm = refl; unstalled = refl }) refl)
 
   -- it says full once more on the fifth tick
   pub full-said-twice : OnJustThatTick network tellsFull (Four tellsFull) busOff cameUp → ⊥
   unfolding computedWords
-  full-said-twice just = true≢false (just refl (record { full = refl; prompt = refl; only-ok = refl; calm = refl }) refl)
+  full-said-twice just = true≢false (just refl (record { full = refl; prompt = refl; only-ok = refl; calm = refl; unstalled = refl }) refl)
+
+  -- it counts a stall as a bus-off: after the one bus-off that came, full is not told on the fourth tick
+  pub stall-counted : SaidFrom network (Four (ticks [])) busOff (tellsFull ∷ answers ∷ asks ∷ (stops ++ (stall ∷ cameUp))) → ⊥
+  unfolding computedWords
+  stall-counted said =
+      let z : _≡_ {A = ℕ} 1 2 = said refl (record { full = refl; prompt = refl; only-ok = refl; calm = refl; unstalled = refl }) in omega arith
 
   -- it refuses a tick that has the bytes it needs
   pub tick-refused : TickTaken 9 network (entry (tick 9) 0x20 []) → ⊥
   tick-refused taken = false≢true (taken 9 refl (omega arith))
+
+-- ---- after a stall
+-- two ticks: asked to stop and stopped, asked to start and running
+abbrev reset : OwnHistory
+reset = answers ∷ asks ∷ stops
+
+module _ where
+  -- it passes over step 15: asked to start at once, full on the second tick
+  pub stop-passed-over : LateAfterStall network (tellsFull ∷ answers ∷ asks ∷ []) stall cameUp → ⊥
+  unfolding computedWords
+  stop-passed-over late = true≢false (late refl refl refl refl .1)
+
+  -- it tells full after the reset though silent is wanted
+  pub full-after-a-stall-though-silent : Told network (tellsFull ∷ wants 1 ∷ (reset ++ (stall ∷ cameUp))) → ⊥
+  unfolding computedWords
+  full-after-a-stall-though-silent = true≢false
+
+  -- it waits for a delay, as after a bus-off, or idles: on the third tick full is not told
+  pub not-told-on-the-third : SaidFromTheThird network (waits ∷ reset) stall cameUp → ⊥
+  unfolding computedWords
+  not-told-on-the-third said = let z : _≡_ {A = ℕ} 1 2 = said refl (record {
+    good = record { full = refl; prompt = refl; only-ok = refl; calm = refl; unstalled = refl };
+    prompt = refl;
+    only-ok = refl;
+  }) in omega arith
+
+  -- the same by what the third tick hands out
+  pub not-on-the-third-tick : OnTheThirdTick network waits reset stall cameUp → ⊥
+  unfolding computedWords
+  not-on-the-third-tick just = false≢true (just refl (record {
+    good = record { full = refl; prompt = refl; only-ok = refl; calm = refl; unstalled = refl };
+    prompt = refl;
+    only-ok = refl;
+  }) refl)

@@ -21,7 +21,7 @@ use Rattle.steps.specs.After.{firstDown}
 use Rattle.handing.specs.declared.Round.{Round}
 use Rattle.handing.specs.declared.Errand.{Errand}
 use Rattle.handing.specs.Handing.{roundRecord, errandRecord, requests, entering, enteringFull, enteringSilent, downNotices, goingDown}
-use Rattle.handing.specs.Handing.{moveRecords, recovery, targetsOf, ownRecord}
+use Rattle.handing.specs.Handing.{moveRecords, recovery, reset, targetsOf, ownRecord}
 
 -- ---- how many
 length-errand : (errand : Errand) (t : Transceiver) → length (map (errandRecord errand) (listed t)) ≤ 1
@@ -151,3 +151,8 @@ module _ (n : Network) where
   pub recovery-own : every (ownRecord n) (recovery (n .handle)) ≡ true
   unfolding recovery ownRecord targetsOf any
   recovery-own = handle-own _ _ refl (handle-own _ _ refl (handle-own _ _ refl none-own))
+
+  -- and the one of a reset
+  pub reset-own : every (ownRecord n) (reset (n .handle)) ≡ true
+  unfolding reset ownRecord targetsOf any
+  reset-own = handle-own _ _ refl none-own

@@ -1,4 +1,5 @@
--- What a move and a bus-off hand out, record by record: the rules S14, H5 to H12, N11, N12, T10, T11, T23 to T25, T27, T28 and B3 of docs/RULES.md.
+-- What a move, a bus-off and a stall hand out, record by record: the rules S14, H5 to H12, N11, N12, T10, T11, T23 to T25, T27, T28, B3 and X2 of
+-- docs/RULES.md.
 use Prim.Native.Nat.{ℕ}
 use mathlib.Core.List.{List, [], _∷_, _++_, map}
 use mathlib.Core.Bool.{Bool, cond}
@@ -88,6 +89,10 @@ moveRecords n step told (Enter next) = requests (asksFor next) n
 -- B3: prefailed for the event manager, silent for the communication manager, bus-off for the mode manager
 unfoldable pub recovery : ℕ → List Record
 recovery handle = reports handle EventStatus.Prefailed ∷ tells handle Mode.Silent ∷ notes handle Notice.BusOff ∷ []
+
+-- X2: silent for the communication manager, and nothing else
+unfoldable pub reset : ℕ → List Record
+reset handle = tells handle Mode.Silent ∷ []
 
 -- H5 to H12: what a record of a kind can name of a network: its controllers, its transceiver, or its handle
 unfoldable pub targetsOf : Network → ℕ → List ℕ

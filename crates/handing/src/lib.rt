@@ -15,7 +15,7 @@ ghost use mathlib.Core.Path.{_≡_};
 ghost use mathlib.Core.List.{map};
 ghost use Rattle.records.specs.Wrote.{Room, Wrote};
 ghost use Rattle.settings.specs.Settings.{controllersOf, listed};
-ghost use Rattle.handing.specs.Handing.{roundRecord, errandRecord, requests, entering, goingDown, downNotices, moveRecords, recovery};
+ghost use Rattle.handing.specs.Handing.{roundRecord, errandRecord, requests, entering, goingDown, downNotices, moveRecords, recovery, reset};
 
 // A record for each controller of a network: a request, or its PDU mode.
 pub enum Round {
@@ -200,4 +200,13 @@ pub fn put_recovery(out: &mut [u8], handle: u8) -> usize
     let next = records::put_record(out, 0, prefailed);
     let next = records::put_record(out, next, silent);
     records::put_record(out, next, noted)
+}
+
+// X2: the record of a reset that begins.
+pub fn put_reset(out: &mut [u8], handle: u8) -> usize
+    requires { ⌜ Room (now out) 0 (reset handle) ⌝ }
+    ensures { λ r. ⌜ Wrote (now (out .entry)) (now (out .exit)) 0 r (reset handle) ⌝ }
+{
+    let told = Record::tell(handle, Mode::Silent);
+    records::put_record(out, 0, told)
 }

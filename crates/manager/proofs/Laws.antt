@@ -1,10 +1,7 @@
 -- Laws that the proofs of the calls cite, each in the shape that the code has.
-use Rattle.lists.proofs.Basics.{ℕ, _≡_, refl, sym, ap, _∙_, List, [], Bool, true, false, cond, leb, length}
+use Rattle.lists.proofs.Basics.{ℕ, _≡_, sym, ap, _∙_, List, [], length}
 use Rattle.records.specs.declared.Record.{Record}
 use Rattle.records.specs.Records.{modeNumber}
-use Rattle.sheet.specs.declared.Written.{Written}
-use Rattle.sheet.specs.Encode.{encode}
-use Rattle.sheet.specs.Writing.{written}
 use Rattle.network.specs.declared.Part.{Part}
 use Rattle.network.specs.declared.State.{State}
 use Rattle.network.specs.Parts.{Sight, partOf, recordsOf}
@@ -12,8 +9,8 @@ use Rattle.slots.specs.declared.Answer.{Answer}
 use Rattle.slots.specs.declared.Slot.{Slot}
 use Rattle.slots.specs.declared.Manager.{Manager}
 use Rattle.slots.specs.declared.Outcome.{Outcome}
-use Rattle.slots.specs.Manager.{settingsOf, networkAt, stateAt, refused, accepted}
-use Rattle.slots.specs.Calls.{afterWriting, writingOf, polled, bySlot, settled, slotOutcome}
+use Rattle.slots.specs.Manager.{networkAt, stateAt, refused}
+use Rattle.slots.specs.Calls.{polled, bySlot, settled, slotOutcome}
 
 -- what a poll gives, by the record of its slot
 pub polled-of : (m : Manager) (i : ℕ) (s : State) (number : ℕ) → s ≡ stateAt m i → number ≡ modeNumber (s .told)
@@ -21,16 +18,6 @@ pub polled-of : (m : Manager) (i : ℕ) (s : State) (number : ℕ) → s ≡ sta
 polled-of m i s number p e =
     let same = e ∙ ap (λ (t : State). modeNumber (t .told)) p in
     λ j. record { answer = Answer.Accepted; manager = m; count = 0; mode = same j; place = 0 }
-
--- the writer's answer, by the room that it has
-pub written-in-room : (m : Manager) (b : List ℕ) → afterWriting m (written (settingsOf m) b) ≡ writingOf m (length b)
-unfolding written writingOf
-written-in-room m b = by-room (leb (length (encode (settingsOf m))) (length b))
-  where
-    by-room : (fits : Bool) → afterWriting m (cond fits (Written.Length (length (encode (settingsOf m)))) Written.Short)
-        ≡ cond fits (accepted m (length (encode (settingsOf m)))) (refused m Answer.TooShort)
-    by-room true = refl
-    by-room false = refl
 
 -- ---- a call that names an id, by the slot that was found
 -- it is refused

@@ -1,25 +1,28 @@
--- Each network in sheet order: its record replaced by a loop, what the ticks hand out, and room for it;
+-- Each network in sheet order: what the ticks hand out, and room for it;
 -- the ways out of a call that is lent a buffer.
 use Rattle.lists.proofs.Basics.{ℕ, zero, suc, _+_, _*_, _≤_, _<_, min, arith, add-one, ltb-false, _≡_, refl, sym, ap, subst, _∙_, List, [], _∷_}
-use Rattle.lists.proofs.Basics.{_++_, append-nil, append-assoc, Bool, true, false, not, cond, ltb, length, getD, take, set, length-append}
-use lib.Seq.{set-getD}
+use Rattle.lists.proofs.Basics.{_++_, append-nil, append-assoc, Bool, true, false, not, cond, ltb, length, getD, take, length-append}
 use Rattle.lists.proofs.Parts.{take-min}
+use Rattle.lists.proofs.Tests.{split}
 use Rattle.records.specs.declared.Record.{Record}
 use Rattle.records.specs.Records.{bytes}
 use Rattle.records.specs.Wrote.{Room, Wrote}
 use Rattle.records.proofs.Laws.{wrote-none, wrote-then, wrote-length, stored-front}
 use Rattle.settings.specs.declared.Network.{Network}
-use Rattle.handing.specs.Handing.{recovery}
+use Rattle.steps.specs.declared.Step.{Step}
+use Rattle.steps.specs.Steps.{asksFor, isUp, isFullStep, asksToStart}
+use Rattle.handing.specs.Handing.{recovery, reset}
 use Rattle.handing.proofs.Laws.{length-move}
 use Rattle.network.specs.declared.State.{State}
 use Rattle.network.specs.declared.Hit.{Hit}
 use Rattle.network.specs.declared.Part.{Part}
+use Rattle.network.specs.declared.Trouble.{Trouble}
 use Rattle.network.specs.Rules.{moveOf}
 use Rattle.network.specs.Moving.{tickState, tickRecords}
 use Rattle.network.specs.Rest.{restsIn}
-use Rattle.network.specs.BusOff.{hitOf, hitRecords}
-use Rattle.network.specs.Parts.{Sight, aBusOff, hitPart, partOf, recordsOf}
-use Rattle.network.proofs.Rest.{resting-stays, resting-hands-out-nothing}
+use Rattle.network.specs.BusOff.{hitOf, stallOf, hitBy, hitRecords}
+use Rattle.network.specs.Parts.{Sight, sightOf, hitPart, partOf, recordsOf}
+use Rattle.network_ticks.proofs.Rest.{resting-stays, resting-hands-out-nothing}
 use Rattle.slots.specs.declared.Stage.{Stage}
 use Rattle.slots.specs.declared.Answer.{Answer}
 use Rattle.slots.specs.declared.Gate.{Gate}
@@ -27,50 +30,9 @@ use Rattle.slots.specs.declared.Slot.{Slot}
 use Rattle.slots.specs.declared.Manager.{Manager}
 use Rattle.slots.specs.declared.Outcome.{Outcome}
 use Rattle.slots.specs.Manager.{networksOf, networkAt, stateAt, withStates, refused, accepted, each, allRecords, share, shares, tickNeeds}
-use Rattle.slots.specs.Calls.{Call, byStage, settled, slotOutcome, gateOf, byGate, gateRecords, allTicked, outcome, handedOut, bufferWith}
-use Rattle.slots.specs.Calls.{Gives, SlotGives}
-
--- ---- the records of the networks, replaced one by one
-module _ (f : Network → State → State) where
-  pub length-each : (ns : List Network) (ss : List State) → length (each f ns ss) ≡ length ss
-  unfolding each
-  length-each [] ss = refl
-  length-each (n ∷ ns) [] = refl
-  length-each (n ∷ ns) (s ∷ ss) = ap suc (length-each ns ss)
-
-  pub each-none : (ss : List State) → ss ≡ each f [] ss
-  unfolding each
-  each-none ss = refl
-
-  -- the record at i is still the old one
-  pub each-read : (ns : List Network) (ss : List State) (i : ℕ) (d : State) → getD (each f (take i ns) ss) i d ≡ getD ss i d
-  unfolding each
-  each-read ns ss zero d = refl
-  each-read [] ss (suc i) d = refl
-  each-read (n ∷ ns) [] (suc i) d = refl
-  each-read (n ∷ ns) (s ∷ ss) (suc i) d = each-read ns ss i d
-
-  one-more : (ns : List Network) (ss : List State) (i : ℕ) (d : Network) (e : State) → i < length ns → i < length ss →
-      set (each f (take i ns) ss) i (f (getD ns i d) (getD ss i e)) ≡ each f (take (suc i) ns) ss
-  unfolding each
-  one-more [] ss i d e h k = absurd (omega arith)
-  one-more (n ∷ ns) [] i d e h k = absurd (omega arith)
-  one-more (n ∷ ns) (s ∷ ss) zero d e h k = refl
-  one-more (n ∷ ns) (s ∷ ss) (suc i) d e h k = ap (λ (r : List State). f n s ∷ r) (one-more ns ss i d e (omega arith) (omega arith))
-
-  -- one turn of the loop, which has put x, f of what it read
-  pub each-more : (ns : List Network) (ss now : List State) (i : ℕ) (d : Network) (e : State) → i < length ns → i < length ss →
-      now ≡ each f (take i ns) ss → (x : State) → x ≡ f (getD ns i d) (getD now i e) → set now i x ≡ each f (take (i + 1) ns) ss
-  each-more ns ss now i d e h k q x p =
-      let r : getD now i e ≡ getD ss i e = ap (λ (l : List State). getD l i e) q ∙ each-read ns ss i e in
-      let g : x ≡ f (getD ns i d) (getD ss i e) = p ∙ ap (f (getD ns i d)) r in
-      ap (λ (y : State). set now i y) g ∙ ap (λ (l : List State). set l i (f (getD ns i d) (getD ss i e))) q
-      ∙ one-more ns ss i d e h k ∙ ap (λ (j : ℕ). each f (take j ns) ss) (sym (add-one i))
-
-  -- one turn of the loop that leaves what it read, since f does
-  pub each-same : (ns : List Network) (ss now : List State) (i : ℕ) (d : Network) (e : State) → i < length ns → i < length ss →
-      now ≡ each f (take i ns) ss → f (getD ns i d) (getD now i e) ≡ getD now i e → now ≡ each f (take (i + 1) ns) ss
-  each-same ns ss now i d e h k q p = sym (set-getD now i e) ∙ each-more ns ss now i d e h k q (getD now i e) (sym p)
+use Rattle.slots.specs.Calls.{Call, byStage, settled, slotOutcome, gateOf, byGate, gateRecords, troubleNeeds, allTicked, outcome, handedOut}
+use Rattle.slots.specs.Calls.{bufferWith, Gives, SlotGives}
+use Rattle.slots.proofs.Each.{each-read, each-same}
 
 -- ---- what the ticks hand out
 records-none : (ss : List State) → allRecords [] ss ≡ []
@@ -230,27 +192,44 @@ open-roomy m room needs = by-stage (m .stage)
     by-stage Stage.Loaded e = absurd (let z : _≡_ {A = ℕ} 0 1 = cc in omega arith)
     by-stage Stage.Started e = by-test (ltb room needs) refl e
 
--- ---- a bus-off
-pub room-recovery : (b : List ℕ) (handle : ℕ) → 9 ≤ length b → Room b 0 (recovery handle)
-unfolding recovery
-room-recovery b handle h = record { fits = omega arith }
+-- ---- trouble
+-- what a bus-off and a stall hand out has the room that its call needs
+pub hit-fits : (n : Network) (trouble : Trouble) (step : Step) → 3 * length (hitRecords n (hitBy trouble step)) ≤ troubleNeeds trouble
+unfolding hitRecords recovery reset hitOf stallOf
+hit-fits n Trouble.BusOff step = split (λ (hit : Hit). 3 * length (hitRecords n hit) ≤ 9) (isUp step) (λ _. omega arith)
+    (λ _. split (λ (hit : Hit). 3 * length (hitRecords n hit) ≤ 9) (asksToStart (asksFor step)) (λ _. omega arith) (λ _. omega arith))
+hit-fits n Trouble.Stall step = split (λ (hit : Hit). 3 * length (hitRecords n hit) ≤ 3) (isFullStep step) (λ _. omega arith) (λ _. omega arith)
 
-pub hit-few : (n : Network) (hit : Hit) → length (hitRecords n hit) ≤ 3
-unfolding hitRecords recovery
-hit-few n Hit.Recover = omega arith
-hit-few n Hit.Restart = omega arith
-hit-few n Hit.NotTaken = omega arith
+pub hit-room : (n : Network) (s : State) (trouble : Trouble) (b : List ℕ) → troubleNeeds trouble ≤ length b
+    → Room b 0 (hitRecords n (hitBy trouble (s .step)))
+hit-room n s trouble b h = record { fits = omega (arith, h, hit-fits n trouble (s .step)) }
+
+-- the network's part of it, and its records
+pub trouble-part : (n : Network) (s : State) (trouble : Trouble) → hitPart s (hitBy trouble (s .step)) ≡ partOf n s (sightOf trouble)
+unfolding partOf
+trouble-part n s Trouble.BusOff = refl
+trouble-part n s Trouble.Stall = refl
+
+pub trouble-records : (n : Network) (s : State) (trouble : Trouble) → hitRecords n (hitBy trouble (s .step)) ≡ recordsOf n s (sightOf trouble)
+unfolding recordsOf
+trouble-records n s Trouble.BusOff = refl
+trouble-records n s Trouble.Stall = refl
 
 -- what the network made of it, as the outcome of its slot
-pub slot-struck : (m : Manager) (i : ℕ) (n : Network) (s : State) (part : Part) (r : Outcome) {b b₁ : List ℕ} {k : ℕ}
-    → n ≡ networkAt m i → s ≡ stateAt m i → part ≡ hitPart s (hitOf (s .step)) → Wrote b b₁ 0 k (hitRecords n (hitOf (s .step)))
-    → 9 ≤ length b → r ≡ settled m i (part .reply) (part .state) k → SlotGives m (Slot.At i) aBusOff b r b₁
-unfolding slotOutcome partOf recordsOf
-slot-struck m i n s part r {b} {b₁} {k} en es ep w room er =
-    let rs = hitRecords (networkAt m i) (hitOf (stateAt m i .step)) in
-    let v : Wrote b b₁ 0 k rs = rw (en, es) at w in
-    let front = wrote-front rs v (omega (arith, room, hit-few (networkAt m i) (hitOf (stateAt m i .step)))) in
-    let q : part ≡ hitPart (stateAt m i) (hitOf (stateAt m i .step)) = ep ∙ ap (λ (t : State). hitPart t (hitOf (t .step))) es in
+pub slot-struck : (m : Manager) (i : ℕ) (n : Network) (s : State) (trouble : Trouble) (part : Part) (r : Outcome) {b b₁ : List ℕ} {k : ℕ}
+    → n ≡ networkAt m i → s ≡ stateAt m i → part ≡ hitPart s (hitBy trouble (s .step)) → Wrote b b₁ 0 k (hitRecords n (hitBy trouble (s .step)))
+    → troubleNeeds trouble ≤ length b → r ≡ settled m i (part .reply) (part .state) k → SlotGives m (Slot.At i) (sightOf trouble) b r b₁
+unfolding slotOutcome
+slot-struck m i n s trouble part r {b} {b₁} {k} en es ep w room er =
+    let rs = recordsOf (networkAt m i) (stateAt m i) (sightOf trouble) in
+    let same : hitRecords n (hitBy trouble (s .step)) ≡ rs = trouble-records n s trouble
+    ∙ ap (λ (x : Network). recordsOf x s (sightOf trouble)) en ∙ ap (λ (x : State). recordsOf (networkAt m i) x (sightOf trouble)) es in
+    let v : Wrote b b₁ 0 k rs = subst (λ (x : List Record). Wrote b b₁ 0 k x) same w in
+    let fits : 3 * length rs ≤ length b = subst (λ (x : List Record). 3 * length x ≤ length b) same
+    (omega (arith, room, hit-fits n trouble (s .step))) in
+    let front = wrote-front rs v fits in
+    let q : part ≡ partOf (networkAt m i) (stateAt m i) (sightOf trouble) = ep ∙ trouble-part n s trouble
+    ∙ ap (λ (x : Network). partOf x s (sightOf trouble)) en ∙ ap (λ (x : State). partOf (networkAt m i) x (sightOf trouble)) es in
     record {
       result = er ∙ ap (settled m i (part .reply) (part .state)) (front .0) ∙ ap (λ (p : Part). settled m i (p .reply) (p .state) (length rs)) q;
       buffer = front .1;

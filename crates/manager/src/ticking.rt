@@ -27,9 +27,9 @@ fn tick_networks(manager: Manager, out: &mut [u8]) -> Outcome
     let mut i: u8 = 0;
     while i < used {
         let state = states[i as usize];
-        if !network::rests(state) {
+        if !network_ticks::rests(state) {
             let network = networks[i as usize];
-            let ticked = network::tick(network, state, out, next);
+            let ticked = network_ticks::tick(network, state, out, next);
             let after = ticked.state;
             states[i as usize] = after;
             next = ticked.next;

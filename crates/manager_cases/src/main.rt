@@ -29,6 +29,8 @@ const TICK: u8 = 0x0a;
 
 const POLL: u8 = 0x0b;
 
+const STALL: u8 = 0x0c;
+
 // The bytes of a call without arguments, and with one, two and three of a byte each.
 const ALONE: usize = 1;
 
@@ -110,7 +112,7 @@ fn call_length(call: &[u8]) -> usize {
     if code == CLEAR || code == CHECK || code == TICK || code == POLL {
         return WITH_ONE;
     }
-    if code == WRITE || code == REQUEST || code == BUS_OFF || code == TRANSCEIVER {
+    if code == WRITE || code == REQUEST || code == BUS_OFF || code == TRANSCEIVER || code == STALL {
         return WITH_TWO;
     }
     if code == ANSWER {
@@ -160,6 +162,13 @@ fn bus_off_part(manager: Manager, id: u8, buffer: &mut [u8], length: usize) -> O
     manager::bus_off(manager, id, &mut buffer[..length])
 }
 
+fn stall_part(manager: Manager, handle: u8, buffer: &mut [u8], length: usize) -> Outcome {
+    if buffer.len() < length {
+        return manager::stall(manager, handle, buffer);
+    }
+    manager::stall(manager, handle, &mut buffer[..length])
+}
+
 fn tick_part(manager: Manager, buffer: &mut [u8], length: usize) -> Outcome {
     if buffer.len() < length {
         return manager::tick(manager, buffer);
@@ -198,6 +207,18 @@ fn run_bus_off(number: u64, manager: Manager, id: u8, length: u8) -> Manager {
     tell_lent(
         number,
         b"bus-off",
+        outcome,
+        &buffer,
+        shown_of_records(outcome.count),
+    )
+}
+
+fn run_stall(number: u64, manager: Manager, handle: u8, length: u8) -> Manager {
+    let mut buffer = filled_for_records();
+    let outcome = stall_part(manager, handle, &mut buffer, length as usize);
+    tell_lent(
+        number,
+        b"stall",
         outcome,
         &buffer,
         shown_of_records(outcome.count),
@@ -273,6 +294,9 @@ fn run_call(number: u64, manager: Manager, call: &[u8]) -> Manager {
     }
     if code == POLL {
         return tell(number, b"poll", manager::poll(manager, first));
+    }
+    if code == STALL {
+        return run_stall(number, manager, first, byte_at(call, 2));
     }
     run_below(number, manager, call)
 }

@@ -20,7 +20,7 @@ use Rattle.slots.specs.declared.Manager.{Manager}
 use Rattle.slots.specs.declared.Outcome.{Outcome}
 use Rattle.slots.specs.Manager.{networksOf, settingsOf, blankState, networkAt, stateAt, withState, withStates, each, tickNeeds}
 use Rattle.slots.specs.Calls.{Call, tick, newManager, afterReading, gateOf, allTicked, outcome}
-use Rattle.manager.proofs.Ticks.{length-each}
+use Rattle.slots.proofs.Each.{length-each}
 use Rattle.calls.specs.Histories.{ReadsBytes, Reached, at-new, after}
 use Rattle.calls.proofs.ByCall.{slot-network, ByCall, by-call}
 use Rattle.manager_theorems.specs.Careful.{Sound}

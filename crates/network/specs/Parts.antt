@@ -1,5 +1,5 @@
 -- What one network makes of a call: its reply, its record after the call, and the records that it hands out. The manager's outcome of a call that
--- names an id is this part of the network that has it. The rules R2, R13 to R15, N14, B6, A1 and A3 to A6 of docs/RULES.md.
+-- names an id is this part of the network that has it. The rules R2, R13 to R15, N14, B6, X5, A1 and A3 to A6 of docs/RULES.md.
 use Prim.Native.Nat.{ℕ}
 use mathlib.Core.List.{List, []}
 use mathlib.Core.Bool.{Bool, true, false, cond}
@@ -13,20 +13,27 @@ use Rattle.network.specs.declared.Part.{Part}
 use Rattle.network.specs.declared.Reply.{Reply}
 use Rattle.network.specs.declared.Report.{Report}
 use Rattle.network.specs.declared.State.{State}
+use Rattle.network.specs.declared.Trouble.{Trouble}
 use Rattle.network.specs.State.{wants, mayWant}
 use Rattle.network.specs.Moving.{tickState, tickRecords}
 use Rattle.network.specs.Answers.{takesReport, afterAnswer, afterReport}
-use Rattle.network.specs.BusOff.{hitOf, afterHit, hitRecords}
+use Rattle.network.specs.BusOff.{hitOf, stallOf, afterHit, hitRecords}
 
--- what a call is to one network: a tick, a bus-off of one of its controllers, an answer of one, a request for it, a report of its transceiver, or
--- nothing of its own
+-- what a call is to one network: a tick, a bus-off of one of its controllers, a stall of its sending, an answer of a controller, a request for it, a
+-- report of its transceiver, or nothing of its own
 pub data Sight : Type 0 where
   aTick : Sight
   aBusOff : Sight
+  aStall : Sight
   anAnswer : (controller mode ok : ℕ) → Sight
   aRequest : (mode : ℕ) → Sight
   aReport : (report : Report) → Sight
   nothing : Sight
+
+-- trouble, as the network sees it
+abbrev pub sightOf : Trouble → Sight
+sightOf Trouble.BusOff = aBusOff
+sightOf Trouble.Stall = aStall
 
 -- the one reply that is no refusal
 abbrev pub isTaken : Reply → Bool
@@ -72,13 +79,14 @@ unfoldable pub answerPart : Network → State → ℕ → ℕ → ℕ → Part
 answerPart n s controller mode ok =
     cond (ltb 1 ok) (declined s Reply.OutOfRange) (takenPart s (Report.Controller mode) (afterAnswer n s controller (eqb ok 1)))
 
--- R15, B6: a bus-off that the step does not take is refused with 22
+-- R15, B6, X5: a bus-off or a stall that the step does not take is refused with 22
 abbrev pub hitReply : Hit → Reply
 hitReply Hit.Recover = Reply.Taken
 hitReply Hit.Restart = Reply.Taken
+hitReply Hit.Reset = Reply.Taken
 hitReply Hit.NotTaken = Reply.NotTaken
 
--- the reply to a bus-off and the record after it
+-- the reply to trouble and the record after it
 unfoldable pub hitPart : State → Hit → Part
 hitPart s hit = record { reply = hitReply hit; state = afterHit s hit }
 
@@ -86,6 +94,7 @@ hitPart s hit = record { reply = hitReply hit; state = afterHit s hit }
 unfoldable pub partOf : Network → State → Sight → Part
 partOf n s aTick = taken (tickState n s)
 partOf n s aBusOff = hitPart s (hitOf (s .step))
+partOf n s aStall = hitPart s (stallOf (s .step))
 partOf n s (anAnswer controller mode ok) = answerPart n s controller mode ok
 partOf n s (aRequest mode) = requestPart s mode
 partOf n s (aReport report) = reportPart s report
@@ -95,6 +104,7 @@ partOf n s nothing = taken s
 unfoldable pub recordsOf : Network → State → Sight → List Record
 recordsOf n s aTick = tickRecords n s
 recordsOf n s aBusOff = hitRecords n (hitOf (s .step))
+recordsOf n s aStall = hitRecords n (stallOf (s .step))
 recordsOf n s (anAnswer controller mode ok) = []
 recordsOf n s (aRequest mode) = []
 recordsOf n s (aReport report) = []

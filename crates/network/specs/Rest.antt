@@ -16,6 +16,7 @@ restsInPhase Phase.Full wanted = byMode wanted false false true
 restsInPhase Phase.Recovering wanted = false
 restsInPhase Phase.Silent wanted = byMode wanted false true false
 restsInPhase Phase.Falling wanted = false
+restsInPhase Phase.Resetting wanted = false
 
 -- what is wanted is there
 abbrev pub restsIn : Step → Mode → Bool

@@ -36,6 +36,6 @@ unfoldable pub wants : State → Mode → State
 wants s mode =
     record { step = s .step; wanted = mode; told = s .told; count = s .count; asked = s .asked; answers = s .answers; reported = s .reported }
 
--- N15, R14: silent may be asked for in steps 4 to 8 alone, no and full in every step, also during a recovery
+-- N15, R14: silent may be asked for in an up step alone, no and full in every step, also during a recovery
 abbrev pub mayWant : Step → Mode → Bool
 mayWant step mode = byMode mode true (isUp step) true

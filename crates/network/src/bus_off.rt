@@ -1,16 +1,16 @@
-// A bus-off of one of the network's controllers.
+// A bus-off of one of the network's controllers, and a stall of its sending.
 use crate::Hit;
 use crate::Part;
 use crate::Reply;
 use crate::State;
 use crate::Struck;
+use crate::Trouble;
 use records::Mode;
 use settings::Network;
 use steps::Step;
 ghost use mathlib.Core.Path.{_≡_};
-ghost use Rattle.handing.specs.Handing.{recovery};
 ghost use Rattle.records.specs.Wrote.{Room, Wrote};
-ghost use Rattle.network.specs.BusOff.{hitOf, raised, countedIn, madeAnew, hitRecords};
+ghost use Rattle.network.specs.BusOff.{hitOf, stallOf, hitBy, raised, countedIn, madeAnew, hitRecords};
 ghost use Rattle.network.specs.Parts.{hitPart};
 
 // B4 to B6: in an up step recovery begins; in step 3, which asks the controllers to start, the step begins anew.
@@ -27,6 +27,25 @@ fn hit_of(step: Step) -> Hit
     Hit::NotTaken
 }
 
+// X2, X5: in steps 4 and 5 a reset begins.
+fn stall_of(step: Step) -> Hit
+    ensures { λ r. ⌜ r ≡ stallOf step ⌝ }
+{
+    if step.is_full() {
+        return Hit::Reset;
+    }
+    Hit::NotTaken
+}
+
+fn hit_by(trouble: Trouble, step: Step) -> Hit
+    ensures { λ r. ⌜ r ≡ hitBy trouble step ⌝ }
+{
+    match trouble {
+        Trouble::BusOff => hit_of(step),
+        Trouble::Stall => stall_of(step),
+    }
+}
+
 // B2: one bus-off more, staying at the most.
 fn raise(count: u8) -> u8
     ensures { λ r. ⌜ r ≡ raised count ⌝ }
@@ -37,14 +56,14 @@ fn raise(count: u8) -> u8
     count
 }
 
-// B2: the count after a bus-off that was taken in a step from 4 to 8: each counts.
+// B2: the count after a bus-off that was taken in an up step: each counts.
 fn count_in(_step: Step, count: u8) -> u8
     ensures { λ r. ⌜ r ≡ countedIn «_step» count ⌝ }
 {
     raise(count)
 }
 
-// B4, B5: the step has not asked, and the answers are forgotten.
+// B4, B5, X3: the step has not asked, and the answers are forgotten.
 fn anew(state: State, step: Step, told: Mode, count: u8) -> State
     ensures { λ r. ⌜ r ≡ madeAnew state step told count ⌝ }
 {
@@ -75,18 +94,19 @@ fn hit_part(state: State, hit: Hit) -> Part
             count_in(step, state.count),
         )),
         Hit::Restart => Part::take(anew(state, step, told, state.count)),
+        Hit::Reset => Part::take(anew(state, Step::ResetStopped, Mode::Silent, state.count)),
         Hit::NotTaken => Part::decline(state, Reply::NotTaken),
     }
 }
 
-// A bus-off: what the network makes of it, and its records from the buffer's front.
-pub fn strike(network: Network, state: State, out: &mut [u8]) -> Struck
-    requires { ⌜ Room (now out) 0 (recovery (network .handle)) ⌝ }
-    ensures { λ r. ⌜ (r .part ≡ hitPart state (hitOf (state .step)))
-        × Wrote (now (out .entry)) (now (out .exit)) 0 (r .count) (hitRecords network (hitOf (state .step))) ⌝ }
+// Trouble: what the network makes of it, and its records from the buffer's front.
+pub fn strike(network: Network, state: State, trouble: Trouble, out: &mut [u8]) -> Struck
+    requires { ⌜ Room (now out) 0 (hitRecords network (hitBy trouble (state .step))) ⌝ }
+    ensures { λ r. ⌜ (r .part ≡ hitPart state (hitBy trouble (state .step)))
+        × Wrote (now (out .entry)) (now (out .exit)) 0 (r .count) (hitRecords network (hitBy trouble (state .step))) ⌝ }
 {
     let step = state.step;
-    let hit = hit_of(step);
+    let hit = hit_by(trouble, step);
     let part = hit_part(state, hit);
     match hit {
         Hit::Recover => {
@@ -94,6 +114,10 @@ pub fn strike(network: Network, state: State, out: &mut [u8]) -> Struck
             Struck { part, count }
         }
         Hit::Restart => Struck { part, count: 0 },
+        Hit::Reset => {
+            let count = handing::put_reset(out, network.handle);
+            Struck { part, count }
+        }
         Hit::NotTaken => Struck { part, count: 0 },
     }
 }

@@ -1,9 +1,7 @@
-// One network: its record, and what a tick and each call do to it.
+// One network: its record, and what each call that names it does to it.
 mod answers;
 mod bus_off;
-mod moving;
 mod parts;
-mod ticking;
 
 ghost use mathlib.Core.Path.{_≡_};
 ghost use Rattle.network.specs.State.{blankAnswers, started, wants, mayWant};
@@ -15,8 +13,6 @@ pub use parts::request_part;
 use records::Mode;
 use settings::Network;
 use steps::Step;
-pub use ticking::rests;
-pub use ticking::tick;
 
 // N3, K2: a controller's last answer in this step.
 pub enum LastAnswer {
@@ -56,10 +52,17 @@ pub struct Ticked {
     pub next: usize,
 }
 
-// What a bus-off does: recovery begins, coming up begins anew, or the step does not take it.
+// What befalls a network, and is answered at once: one of its controllers is bus-off, or its sending has stuck.
+pub enum Trouble {
+    BusOff,
+    Stall,
+}
+
+// What trouble does: recovery begins, coming up begins anew, a reset begins, or the step does not take it.
 pub enum Hit {
     Recover,
     Restart,
+    Reset,
     NotTaken,
 }
 
@@ -70,7 +73,7 @@ pub enum Reply {
     OutOfRange,
     // R14: 08, for silent asked for where the network is not up.
     NotUp,
-    // R15: 22, for an answer, a report or a bus-off that the step does not take.
+    // R15: 22, for an answer, a report, a bus-off or a stall that the step does not take.
     NotTaken,
 }
 
@@ -80,7 +83,7 @@ pub struct Part {
     pub state: State,
 }
 
-// What it makes of a bus-off, and the number of records handed out.
+// What it makes of trouble, and the number of records handed out.
 pub struct Struck {
     pub part: Part,
     pub count: usize,

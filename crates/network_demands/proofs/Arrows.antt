@@ -10,6 +10,7 @@ use Rattle.steps.specs.declared.Step.{Step}
 use Rattle.steps.specs.declared.Step.the-variants.{NoCommunication, TransceiverNormal, ControllersStopped, ControllersStarted, Checking, Full}
 use Rattle.steps.specs.declared.Step.the-variants.{Restarting, Waiting, Silent, ClearWake, DownStopped, TransceiverStandby, ControllersSleep}
 use Rattle.steps.specs.declared.Step.the-variants.{CheckWake, CheckWakeAgain}
+use Rattle.steps.specs.declared.Step.the-variants.{ResetStopped, ResetStarted}
 use Rattle.steps.specs.declared.Phase.{Phase}
 use Rattle.steps.specs.declared.Ask.{Ask}
 use Rattle.steps.specs.declared.Outfit.{Outfit}
@@ -22,7 +23,7 @@ use Rattle.steps.specs.After.{firstDown}
 use Rattle.network.specs.declared.State.{State}
 use Rattle.network.specs.State.{heardOf}
 use Rattle.network.specs.Rules.{isRefusal, outfitOf}
-use Rattle.network_theorems.specs.Kept.{Quiet, Kept}
+use Rattle.network_theorems.specs.Kept.{Kept}
 use Rattle.network_demands.specs.Own.{finished, reaches, decides}
 
 -- an outfit has what is asked: a transceiver, and for the wake flag partial networking
@@ -51,11 +52,12 @@ restedPhase Phase.Full = true
 restedPhase Phase.Recovering = true
 restedPhase Phase.Silent = true
 restedPhase Phase.Falling = false
+restedPhase Phase.Resetting = true
 
 abbrev pub hasRested : Step → Bool
 hasRested step = restedPhase (phaseOf step)
 
--- steps 3 to 8: the controllers were asked to start
+-- steps 3 to 8, 15 and 16: the controllers were asked to start
 abbrev pub hasBegun : Step → Bool
 hasBegun step = isUp step || asksToStart (asksFor step)
 
@@ -68,6 +70,7 @@ up-on Phase.Full e = refl
 up-on Phase.Recovering e = refl
 up-on Phase.Silent e = refl
 up-on Phase.Falling e = e
+up-on Phase.Resetting e = refl
 
 pub on-rested : (phase : Phase) → onPhase phase ≡ true → restedPhase phase ≡ true
 on-rested Phase.Off e = refl
@@ -77,6 +80,7 @@ on-rested Phase.Full e = refl
 on-rested Phase.Recovering e = refl
 on-rested Phase.Silent e = refl
 on-rested Phase.Falling e = e
+on-rested Phase.Resetting e = refl
 
 pub up-rested : (phase : Phase) → upPhase phase ≡ true → restedPhase phase ≡ true
 up-rested phase e = on-rested phase (up-on phase e)
@@ -134,10 +138,12 @@ pub record ByArrow (done reached : Bool) (outfit : Outfit) (P : Step → Mode �
   -- 6 to 7, and 7
   pub waits : (wanted : Mode) → isNo wanted ≡ false → done ≡ true → P Restarting wanted Wait
   pub waits-on : (t : ℕ) (wanted : Mode) → isNo wanted ≡ false → reached ≡ false → P (Waiting t) wanted (Count (Waiting (risen t)))
-  -- 7 and 8 to 4; 4, 5 and 7 to 8
-  pub fills : (step : Step) → Quiet step → isFullStep step ≡ false → P step Mode.Full EnterFull
-  pub silences : (step : Step) → Quiet step → P step Mode.Silent EnterSilent
-  -- 1 to 8, down; going down; to 0
+  -- 15 to 16
+  pub resumes : (wanted : Mode) → isNo wanted ≡ false → done ≡ true → P ResetStopped wanted (Enter ResetStarted)
+  -- 7, 8 and 16 to 4; 4, 5, 7 and 16 to 8
+  pub fills : (step : Step) → isUp step ≡ true → isFullStep step ≡ false → P step Mode.Full EnterFull
+  pub silences : (step : Step) → isUp step ≡ true → P step Mode.Silent EnterSilent
+  -- 1 to 8, 15 and 16, down; going down; to 0
   pub goes-down : (step : Step) → isOn step ≡ true → P step Mode.No GoDown
   pub sinks : (step next : Step) (wanted : Mode) → Down step → Down next → suits outfit next ≡ true → P step wanted (Enter next)
   pub ends : (step : Step) (wanted : Mode) → Down step → P step wanted EnterNoCommunication
@@ -206,22 +212,22 @@ module _ (done reached : Bool) (outfit : Outfit) (P : Step → Mode → Move →
   by-arrow ControllersStarted Mode.Silent refused u w = absurd (false≢true (w refl))
   by-arrow ControllersStarted Mode.Full refused u w = climbing _ _ u refl refl refl _ refl (by .starts)
   by-arrow (Checking t) Mode.No refused u w = by .goes-down _ refl
-  by-arrow (Checking t) Mode.Silent refused u w = by .silences _ (record { up = refl; quiet = refl })
+  by-arrow (Checking t) Mode.Silent refused u w = by .silences _ refl
   by-arrow (Checking t) Mode.Full refused u w = split (P (Checking t) Mode.Full) reached (by .passes t) (by .checks t)
   by-arrow Full Mode.No refused u w = by .goes-down _ refl
-  by-arrow Full Mode.Silent refused u w = by .silences _ (record { up = refl; quiet = refl })
+  by-arrow Full Mode.Silent refused u w = by .silences _ refl
   by-arrow Full Mode.Full refused u w = by .stays-full
   by-arrow Restarting Mode.No refused u w = by .goes-down _ refl
   by-arrow Restarting Mode.Silent refused u w = climbing _ _ u refl refl refl _ refl (by .waits _ refl)
   by-arrow Restarting Mode.Full refused u w = climbing _ _ u refl refl refl _ refl (by .waits _ refl)
   by-arrow (Waiting t) Mode.No refused u w = by .goes-down _ refl
   by-arrow (Waiting t) Mode.Silent refused u w =
-      split (P (Waiting t) Mode.Silent) reached (λ _. by .silences _ (record { up = refl; quiet = refl })) (by .waits-on t Mode.Silent refl)
+      split (P (Waiting t) Mode.Silent) reached (λ _. by .silences _ refl) (by .waits-on t Mode.Silent refl)
   by-arrow (Waiting t) Mode.Full refused u w =
-      split (P (Waiting t) Mode.Full) reached (λ _. by .fills _ (record { up = refl; quiet = refl }) refl) (by .waits-on t Mode.Full refl)
+      split (P (Waiting t) Mode.Full) reached (λ _. by .fills _ refl refl) (by .waits-on t Mode.Full refl)
   by-arrow Silent Mode.No refused u w = by .goes-down _ refl
   by-arrow Silent Mode.Silent refused u w = by .stays-silent
-  by-arrow Silent Mode.Full refused u w = by .fills _ (record { up = refl; quiet = refl }) refl
+  by-arrow Silent Mode.Full refused u w = by .fills _ refl refl
   by-arrow ClearWake wanted refused u w =
       let d : Down ClearWake = record { falls = refl; starts-not = refl } in
       grounded ClearWake wanted _ d (λ g. when-done _ _ _ (down-asks outfit ClearWake u refl d) g (λ _. by-partial (P ClearWake wanted) _ _
@@ -252,6 +258,12 @@ module _ (done reached : Bool) (outfit : Outfit) (P : Step → Mode → Move →
       grounded CheckWakeAgain wanted _ d (λ g. when-done _ _ _ (down-asks outfit CheckWakeAgain u refl d) g (λ _.
       by-partial (P CheckWakeAgain wanted) _ _ (λ o. absurd (false≢true (sym o ∙ u)))
       (λ o. by .sinks _ _ _ d (record { falls = refl; starts-not = refl }) u)))
+  by-arrow ResetStopped Mode.No refused u w = by .goes-down _ refl
+  by-arrow ResetStopped Mode.Silent refused u w = climbing _ _ u refl refl refl _ refl (by .resumes _ refl)
+  by-arrow ResetStopped Mode.Full refused u w = climbing _ _ u refl refl refl _ refl (by .resumes _ refl)
+  by-arrow ResetStarted Mode.No refused u w = by .goes-down _ refl
+  by-arrow ResetStarted Mode.Silent refused u w = climbing _ _ u refl refl refl _ refl (λ _. by .silences _ refl)
+  by-arrow ResetStarted Mode.Full refused u w = climbing _ _ u refl refl refl _ refl (λ _. by .fills _ refl refl)
 
 -- whatever holds of each arrow holds of what a tick decides for a network
 pub by-tick-arrow : (n : Network) (s : State) (P : Step → Mode → Move → Type 0) → ByArrow (finished n s) (reaches n s) (ownOutfit n) P

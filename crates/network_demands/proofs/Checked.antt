@@ -14,7 +14,7 @@ use Rattle.steps.specs.declared.Move.{Move}
 use Rattle.steps.specs.Steps.{phaseOf, timerOf, fullPhase, isFullStep}
 use Rattle.steps.specs.Decision.{risen}
 use Rattle.steps.specs.After.{firstDown, stepAfter}
-use Rattle.handing.specs.Handing.{recovery}
+use Rattle.handing.specs.Handing.{recovery, reset}
 use Rattle.network.specs.declared.State.{State}
 use Rattle.network.specs.State.{started}
 use Rattle.network.specs.Moving.{afterMove}
@@ -45,6 +45,7 @@ ByPhase ensure Phase.Full timer k = ensure ≤ k
 ByPhase ensure Phase.Recovering timer k = Unit
 ByPhase ensure Phase.Silent timer k = Unit
 ByPhase ensure Phase.Falling timer k = Unit
+ByPhase ensure Phase.Resetting timer k = Unit
 
 abbrev Checked : ℕ → Step → ℕ → Type 0
 Checked ensure step k = ByPhase ensure (phaseOf step) (timerOf step) k
@@ -58,6 +59,7 @@ not-full ensure k Phase.Full timer e = absurd (true≢false e)
 not-full ensure k Phase.Recovering timer e = tt
 not-full ensure k Phase.Silent timer e = tt
 not-full ensure k Phase.Falling timer e = tt
+not-full ensure k Phase.Resetting timer e = tt
 
 -- ---- ticks
 -- the number after a move
@@ -109,6 +111,7 @@ module _ (ensure k : ℕ) (some : 0 < ensure) (few : ensure < 65536) (partial do
     stays-silent = λ q i. (tt, refl);
     waits = λ wanted w d q i. (tt, refl);
     waits-on = λ t wanted w r q i. (tt, refl);
+    resumes = λ wanted w d q i. (tt, refl);
     fills = λ step p e q i. enters Move.EnterFull refl refl;
     silences = λ step p q i. (tt, refl);
     goes-down = λ step o q i. leaves (firstDown partial) Move.GoDown (first-down-not-full partial) refl;
@@ -142,13 +145,14 @@ module _ (n : Network) where
   checked-call : InRange n → (h : OwnHistory) (s : State) → Kept n s → suits (ownOutfit n) (s .step) ≡ true
       → Checked (n .ensure) (s .step) (sinceFull h)
       → (e : Seen) → Fits n s e → Checked (n .ensure) (played n s (e .sight) .state .step) (sinceFull (e ∷ h))
-  unfolding since tally any recovery afterMove afterHit madeAnew
+  unfolding since tally any recovery reset afterMove afterHit madeAnew
   checked-call g h s kept u i = by-part n s (λ e t. Checked (n .ensure) (t .step) (sinceFull (e ∷ h))) (record {
     plain = λ sight accepted mode reported p. rw (p .tick) i;
     hears = λ c mode ok m l e. i;
     recovers = λ u. tt;
     restarts = λ u a. i;
     not-taken = λ u a. i;
+    resets = λ f. tt;
     ticks = rw (since-full-tick h (seen aTick true (tickHands n s)) refl, move-says-full n (s .step) (s .told) (decides n s))
         (checked-tick s (sinceFull h) g kept u i .0);
   })

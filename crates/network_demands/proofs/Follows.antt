@@ -9,18 +9,18 @@ use Rattle.settings.specs.Good.{InRange}
 use Rattle.steps.specs.declared.Move.{Move}
 use Rattle.steps.specs.declared.Move.the-variants.{Stay, AskAgain, Count, EnterFull, EnterSilent, Pass, Wait, GoDown, EnterNoCommunication, Enter}
 use Rattle.steps.specs.Steps.{isUp}
-use Rattle.handing.specs.Handing.{recovery}
+use Rattle.handing.specs.Handing.{recovery, reset}
 use Rattle.network.specs.declared.State.{State}
 use Rattle.network.specs.State.{started}
 use Rattle.network.specs.Rules.{isLong, delayOf}
 use Rattle.network.specs.Moving.{countAfter, afterMove}
 use Rattle.network.specs.BusOff.{raised, madeAnew, afterHit}
-use Rattle.network.specs.Parts.{Sight, aTick, aBusOff}
+use Rattle.network.specs.Parts.{Sight, aTick, aBusOff, aStall}
 use Rattle.network_theorems.specs.Kept.{Kept}
 use Rattle.network_theorems.proofs.Kept.{start-kept}
 use Rattle.lists.proofs.Tests.{split}
 use Rattle.network_demands.specs.Words.{is, Seen, OwnHistory, wantedBy, cleared, toldBy, told, wanted, up, fellUp, falls, delayAt}
-use Rattle.network_demands.specs.Own.{decides, tickAfter, tickHands, recovered, played, stateOf, Fits, Ran}
+use Rattle.network_demands.specs.Own.{decides, tickAfter, tickHands, recovered, resetAfter, played, stateOf, Fits, Ran}
 use Rattle.network_demands.proofs.Views.{either-way, seen, Plain, plainState, by-part, part-kept}
 use Rattle.network_demands.proofs.Handed.{eqb-same, isPass, move-tells, move-clears}
 use Rattle.network_demands.proofs.Up.{up-means}
@@ -116,6 +116,15 @@ module _ (n : Network) (h : OwnHistory) (s : State) (u : up n h ≡ isUp (s .ste
     told = ap modeNumber same-told ∙ k .told;
   }
 
+  -- a stall tells silent, and touches neither the count nor the wanted mode
+  follows-reset : StillFollows (seen aStall true (reset (n .handle))) (resetAfter s)
+  unfolding any told toldBy wanted reset afterHit madeAnew
+  follows-reset = record {
+    count = count-on (seen aStall true (reset (n .handle))) false refl refl;
+    wanted = k .wanted;
+    told = rw (eqb-same (n .handle)) refl;
+  }
+
   follows-tick : StillFollows (seen aTick true (tickHands n s)) (tickAfter n s)
   unfolding told wanted afterMove
   follows-tick =
@@ -134,6 +143,7 @@ module _ (n : Network) (h : OwnHistory) (s : State) (u : up n h ≡ isUp (s .ste
     recovers = follows-fall;
     restarts = λ f a. follows-down f true _ refl refl refl;
     not-taken = λ f a. follows-down f false _ refl refl refl;
+    resets = λ f. follows-reset;
     ticks = follows-tick;
   })
 

@@ -9,12 +9,14 @@ pub mod Way
 pub mod Told
 pub mod Second
 pub mod Third
+pub mod ThirdTick
 pub mod Arrows
 pub mod Given
 pub mod Standing
 pub mod Turns
 pub mod Checked
 pub mod Readied
+pub mod Stops
 pub mod Waits
 pub mod Ticks
 pub mod Promises

@@ -1,22 +1,29 @@
--- The promises on bus-offs, answers and requests, for one network: what is taken and what is handed out on it.
-use Rattle.lists.proofs.Basics.{ℕ, zero, suc, arith, le-leb, lt-leb, ltb-true, ltb-false, ne-eqb, _≡_, refl, sym, ap, _∙_, _∷_, Bool, true, false}
-use Rattle.lists.proofs.Basics.{_&&_, _||_, and-false, not, false≢true, eqb, leb, ltb}
+-- The promises on bus-offs, stalls, answers and requests, for one network: what is taken and what is handed out on it.
+use Rattle.lists.proofs.Basics.{ℕ, zero, suc, arith, le-leb, lt-leb, ltb-true, ltb-false, ne-eqb, _≡_, refl, sym, ap, _∙_, List, [], _∷_, Bool, true}
+use Rattle.lists.proofs.Basics.{false}
+use Rattle.lists.proofs.Basics.{cond, _&&_, _||_, and-false, not, false≢true, eqb, leb, ltb}
 use Rattle.lists.proofs.Tests.{split}
 use Rattle.records.specs.declared.Mode.{Mode}
+use Rattle.records.specs.declared.Record.{Record}
+use Rattle.records.specs.Records as records
 use Rattle.settings.specs.declared.Network.{Network}
 use Rattle.settings.specs.Good.{InRange}
 use Rattle.steps.specs.Steps.{isUp}
-use Rattle.handing.specs.Handing.{recovery}
+use Rattle.handing.specs.Handing.{recovery, reset}
 use Rattle.network.specs.declared.Part.{Part}
 use Rattle.network.specs.declared.Report.{Report}
 use Rattle.network.specs.declared.State.{State}
 use Rattle.network.specs.Answers.{takesReport}
-use Rattle.network.specs.Parts.{Sight, anAnswer, aRequest, aReport, isTaken, outOfRange, wantedPart, requestPart, takenPart, reportPart, answerPart}
-use Rattle.network_demands.specs.Words.{Seen, OwnHistory}
-use Rattle.network_demands.specs.Own.{played, stateOf, concerns, Fits, Ran}
-use Rattle.network_demands.specs.Promises.{BusOffs, Answers, Requests}
+use Rattle.network.specs.BusOff.{hitRecords}
+use Rattle.network.specs.Parts.{Sight, aStall, anAnswer, aRequest, aReport, isTaken, outOfRange, hitReply, wantedPart, requestPart, takenPart}
+use Rattle.network.specs.Parts.{reportPart, answerPart}
+use Rattle.network_theorems.proofs.Parts.{by-stall}
+use Rattle.network_demands.specs.Words.{Seen, OwnHistory, told}
+use Rattle.network_demands.specs.Own.{played, handed, stateOf, concerns, Fits, Ran}
+use Rattle.network_demands.specs.Promises.{BusOffs, Stalls, Answers, Requests}
 use Rattle.network_demands.proofs.Views.{by-part}
 use Rattle.network_demands.proofs.Up.{up-means}
+use Rattle.network_demands.proofs.Told.{told-in-full}
 use Rattle.network_demands.proofs.Given.{controller-requested, transceiver-requested, clear-requested, check-requested}
 use Rattle.network_demands.proofs.Standing.{stands, awaited-takes}
 
@@ -92,8 +99,22 @@ module _ (n : Network) (g : InRange n) (e : Seen) (h : OwnHistory) (r : Ran n (e
         recovers = λ u. record { records = λ f. rw (up-means n h before ∙ u) refl; accepted = λ f c m. sym (i .begun c m ∙ rw u refl) };
         restarts = λ u a. record { records = λ f. rw (up-means n h before ∙ u) refl; accepted = λ f c m. sym (i .begun c m ∙ rw (u, a) refl) };
         not-taken = λ u a. record { records = λ f. rw (up-means n h before ∙ u) refl; accepted = λ f c m. sym (i .begun c m ∙ rw (u, a) refl) };
+        resets = λ u. record { records = λ f. absurd (false≢true f); accepted = λ f. absurd (false≢true f) };
         ticks = record { records = λ f. absurd (false≢true f); accepted = λ f. absurd (false≢true f) };
       }) e fits
+
+  -- a stall, by what its step makes of it
+  pub stalling : Stalls n e h
+  unfolding played handed hitRecords reset
+  stalling = record {
+    records = λ f. fits .records ∙ ap (handed n s) f ∙ by-stall s (λ hit. hitRecords n hit ≡ silenced (eqb 2 (told n h)))
+        (λ full. rw (told-in-full n g h before ∙ full) refl) (λ full. rw (told-in-full n g h before ∙ full) refl);
+    accepted = λ f. replied aStall f refl ∙ by-stall s (λ hit. isTaken (hitReply hit) ≡ eqb 2 (told n h))
+        (λ full. sym (told-in-full n g h before ∙ full)) (λ full. sym (told-in-full n g h before ∙ full));
+  }
+    where
+      silenced : Bool → List Record
+      silenced b = cond b (records.handed 6 (n .handle) 1 ∷ []) []
 
   pub requests : Requests n e h
   unfolding played

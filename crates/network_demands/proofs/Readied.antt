@@ -29,7 +29,7 @@ use Rattle.network.specs.Rules.{isOkay, outfitOf}
 use Rattle.network.specs.Moving.{keepsAnswers, afterMove}
 use Rattle.network.specs.Answers.{awaits, takesReport, answerOf}
 use Rattle.network.specs.BusOff.{madeAnew, afterHit}
-use Rattle.network.specs.Parts.{Sight, aTick, aBusOff, anAnswer, aRequest, aReport, nothing}
+use Rattle.network.specs.Parts.{Sight, aTick, aBusOff, aStall, anAnswer, aRequest, aReport, nothing}
 use Rattle.network_theorems.specs.Kept.{Kept}
 use Rattle.network_demands.specs.Words.{Seen, OwnHistory, since, isAnswerOn}
 use Rattle.network_demands.specs.Own.{finished, decides, reaches, tickAfter, tickHands, played, stateOf, Fits, Ran}
@@ -68,6 +68,7 @@ ReadiedIn n Phase.Full ask answers reported q = Unit
 ReadiedIn n Phase.Recovering ask answers reported q = Unit
 ReadiedIn n Phase.Silent ask answers reported q = Unit
 ReadiedIn n Phase.Falling ask answers reported q = Unit
+ReadiedIn n Phase.Resetting ask answers reported q = Unit
 
 abbrev Readied : Network → Step → List Heard → Bool → OwnHistory → Type 0
 Readied n step answers reported q = ReadiedIn n (phaseOf step) (asksFor step) answers reported q
@@ -108,9 +109,10 @@ module _ (n : Network) where
   onward answers answers′ reported reported′ q q′ Phase.Recovering ask o i = tt
   onward answers answers′ reported reported′ q q′ Phase.Silent ask o i = tt
   onward answers answers′ reported reported′ q q′ Phase.Falling ask o i = tt
+  onward answers answers′ reported reported′ q q′ Phase.Resetting ask o i = tt
 
   -- an entry that is no accepted answer of the network's controllers on stopped leaves who said so
-  said-on : (e : Seen) (q : OwnHistory) (c : ℕ) → isAnswerOn c 0 1 (e .sight) && e .accepted ≡ false
+  pub said-on : (e : Seen) (q : OwnHistory) (c : ℕ) → isAnswerOn c 0 1 (e .sight) && e .accepted ≡ false
       → isAnswerOn c 0 0 (e .sight) && e .accepted ≡ false → saidOk c 0 (e ∷ q) ≡ saidOk c 0 q
   unfolding saidOk
   said-on e q c a b = rw (a, b) refl
@@ -142,6 +144,7 @@ module _ (n : Network) where
   starting-readied answers reported q Phase.Recovering ask a = tt
   starting-readied answers reported q Phase.Silent ask a = tt
   starting-readied answers reported q Phase.Falling ask a = tt
+  starting-readied answers reported q Phase.Resetting ask a = tt
 
   -- the first down step claims nothing
   down-readied : (answers : List Heard) (reported : Bool) (q : OwnHistory) (partial : Bool) → Readied n (firstDown partial) answers reported q
@@ -183,12 +186,36 @@ module _ (n : Network) where
       stays-silent = λ f i. tt;
       waits = λ wanted w d f i. tt;
       waits-on = λ t wanted w r f i. tt;
+      resumes = λ wanted w d f i. tt;
       fills = λ step p e f i. tt;
       silences = λ step p f i. tt;
       goes-down = λ step o f i. down-readied _ _ _ (n .partial);
       sinks = λ step next wanted d e _ f i. rw (e .falls) tt;
       ends = λ step wanted d f i. tt;
     }
+
+  -- ---- an answer that is taken
+  module _ (g : InRange n) (s : State) (kept : Kept n s) (c mode ok : ℕ) (l : ltb 1 ok ≡ false) where
+    -- the controller that answers with ok said so, the others as before
+    own-said : (value : ℕ) → ltb 1 value ≡ false → member c (controllersOf n) ≡ true → eqb 0 mode ≡ true → (q : OwnHistory)
+        → saidOkay n (heardState n s c value .answers) c ≡ true → saidOk c 0 (seen (anAnswer c mode value) true [] ∷ q) ≡ true
+    unfolding saidOk
+    own-said zero v m z q o = absurd (false≢true (sym (okay-own n s g kept c (heard LastAnswer.Refused) m) ∙ o))
+    own-said (suc zero) v m z q o = rw (eqb-same c, z) refl
+    own-said (suc (suc value)) v m z q o = absurd (omega (arith, ltb-false 1 (suc (suc value)) v))
+
+    pub heard-stopped : (q : OwnHistory) → member c (controllersOf n) ≡ true → eqb 0 mode ≡ true → (d : ℕ) → member d (controllersOf n) ≡ true
+        → (saidOkay n (s .answers) d ≡ true → saidOk d 0 q ≡ true) → saidOkay n (heardState n s c ok .answers) d ≡ true
+        → saidOk d 0 (seen (anAnswer c mode ok) true [] ∷ q) ≡ true
+    heard-stopped q m z d p before o = by-test (eqb d c) refl
+      where
+        by-test : (b : Bool) → eqb d c ≡ b → saidOk d 0 (seen (anAnswer c mode ok) true [] ∷ q) ≡ true
+        by-test true e =
+            subst (λ (x : ℕ). saidOkay n (heardState n s c ok .answers) x ≡ true → saidOk x 0 (seen (anAnswer c mode ok) true [] ∷ q) ≡ true)
+            (sym (eqb-true d c e)) (own-said ok l m z q) o
+        by-test false e =
+            said-on (seen (anAnswer c mode ok) true []) q d (rw e refl) (rw e refl)
+            ∙ before (sym (okay-other n (s .answers) d c (heard (answerOf (eqb ok 1))) e p m) ∙ o)
 
   -- ---- all that is seen
   module _ (g : InRange n) (h : OwnHistory) (s : State) (kept : Kept n s) (u : suits (ownOutfit n) (s .step) ≡ true)
@@ -206,27 +233,6 @@ module _ (n : Network) where
       abbrev answering : Seen
       answering = seen (anAnswer c mode ok) true []
 
-      -- the controller that answers with ok said so, the others as before
-      own-said : (value : ℕ) → ltb 1 value ≡ false → member c (controllersOf n) ≡ true → eqb 0 mode ≡ true → (q : OwnHistory)
-          → saidOkay n (heardState n s c value .answers) c ≡ true → saidOk c 0 (seen (anAnswer c mode value) true [] ∷ q) ≡ true
-      unfolding saidOk
-      own-said zero v m z q o = absurd (false≢true (sym (okay-own n s g kept c (heard LastAnswer.Refused) m) ∙ o))
-      own-said (suc zero) v m z q o = rw (eqb-same c, z) refl
-      own-said (suc (suc value)) v m z q o = absurd (omega (arith, ltb-false 1 (suc (suc value)) v))
-
-      heard-stopped : (q : OwnHistory) → member c (controllersOf n) ≡ true → eqb 0 mode ≡ true → (d : ℕ) → member d (controllersOf n) ≡ true
-          → (saidOkay n (s .answers) d ≡ true → saidOk d 0 q ≡ true) → saidOkay n (heardState n s c ok .answers) d ≡ true
-          → saidOk d 0 (answering ∷ q) ≡ true
-      heard-stopped q m z d p before o = by-test (eqb d c) refl
-        where
-          by-test : (b : Bool) → eqb d c ≡ b → saidOk d 0 (answering ∷ q) ≡ true
-          by-test true e =
-              subst (λ (x : ℕ). saidOkay n (heardState n s c ok .answers) x ≡ true → saidOk x 0 (answering ∷ q) ≡ true)
-              (sym (eqb-true d c e)) (own-said ok l m z q) o
-          by-test false e =
-              said-on answering q d (rw e refl) (rw e refl)
-              ∙ before (sym (okay-other n (s .answers) d c (heard (answerOf (eqb ok 1))) e p m) ∙ o)
-
       heard-readied : member c (controllersOf n) ≡ true → Still answering (heardState n s c ok)
       unfolding since any
       heard-readied m =
@@ -234,7 +240,7 @@ module _ (n : Network) where
           (phaseOf (s .step)) (asksFor (s .step)) (record {
             normal = λ a. a;
             reports = λ r _ before. before r;
-            stopped = λ a d p before o. heard-stopped (sinceRest n h) m
+            stopped = λ a d p before o. heard-stopped g s kept c mode ok l (sinceRest n h) m
                 (ap (λ (ask : Ask). awaits ask (Report.Controller mode)) (sym a) ∙ taken-awaits (Report.Controller mode) t) d p before o;
           }) i
 
@@ -252,6 +258,7 @@ module _ (n : Network) where
     normal-sight : (sight : Sight) → asksFor (s .step) ≡ Ask.Transceiver TransceiverMode.Normal → takesSight s sight ≡ true → saysNormal sight ≡ true
     normal-sight aTick a e = e
     normal-sight aBusOff a e = e
+    normal-sight aStall a e = e
     normal-sight (anAnswer controller mode ok) a e = e
     normal-sight (aRequest mode) a e = e
     normal-sight (aReport report) a e = normal-report (asksFor (s .step)) report a (taken-awaits report e)
@@ -299,6 +306,7 @@ module _ (n : Network) where
       recovers = λ _. tt;
       restarts = λ _ a. starting-readied _ _ _ (phaseOf (s .step)) (asksFor (s .step)) a;
       not-taken = λ _ _. unheard (s .answers) (s .reported) (sinceRest n h) (s .step) (seen aBusOff false []) (λ c value m. refl) i;
+      resets = λ _. tt;
       ticks = ticks-readied;
     })
 

@@ -8,8 +8,8 @@ use Rattle.lists.proofs.Parts.{padded-count}
 use Rattle.settings.specs.declared.Network.{Network}
 use Rattle.settings.specs.Settings.{controllersOf, member}
 use Rattle.settings.specs.Good.{InRange}
-use Rattle.network_demands.specs.Words.{hands, Seen, OwnHistory, since, tally, isAnswer, ticked, setback, fellUp, delayAt, owed, askedToStart}
-use Rattle.network_demands.specs.Words.{runs, allRun, firstRunning}
+use Rattle.network_demands.specs.Words.{hands, Seen, OwnHistory, since, tally, isAnswer, ticked, stalled, setback, fellUp, delayAt, owed}
+use Rattle.network_demands.specs.Words.{afterStall, askedToStart, runs, allRun, firstRunning}
 use Rattle.network_demands.proofs.Handed.{eqb-same}
 use Rattle.network_demands.proofs.Slots.{every-member}
 
@@ -24,6 +24,11 @@ pub owed-by : (n : Network) (e : Seen) (h : OwnHistory) (b : Bool) → setback n
     → owed n (e ∷ h) ≡ cond b (cond (fellUp n e h) (delayAt n (e ∷ h)) 0) (owed n h)
 unfolding owed
 owed-by n e h b q = rw q refl
+
+pub stall-by : (n : Network) (e : Seen) (h : OwnHistory) (b : Bool) → setback n e ≡ b
+    → afterStall n (e ∷ h) ≡ cond b (stalled e) (afterStall n h)
+unfolding afterStall
+stall-by n e h b q = rw q refl
 
 -- a controller that was not asked to start does not run
 pub asked-first : (c : ℕ) (h : OwnHistory) → askedToStart c h ≡ false → runs c h ≡ false

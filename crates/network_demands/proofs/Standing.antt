@@ -1,7 +1,9 @@
 -- Where a network stands, by its history: what was told, handed out and wanted says in which group of steps it is, and what it waits for.
-use Rattle.lists.proofs.Basics.{ℕ, _≡_, refl, sym, ap, _∙_, [], _∷_, Bool, true, false, cond, _&&_, _||_, or-true, eqb}
+use Rattle.lists.proofs.Basics.{ℕ, _≡_, refl, sym, ap, _∙_, List, [], _∷_, Bool, true, false, cond, _&&_, _||_, or-true, eqb}
 use Rattle.lists.specs.Lists.{any}
+use Rattle.lists.proofs.Any.{and-both}
 use Rattle.records.specs.declared.Mode.{Mode}
+use Rattle.records.specs.declared.Record.{Record}
 use Rattle.records.specs.Records.{modeNumber}
 use Rattle.settings.specs.declared.Transceiver.{Transceiver}
 use Rattle.settings.specs.declared.Network.{Network}
@@ -13,7 +15,7 @@ use Rattle.steps.specs.declared.Outfit.{Outfit}
 use Rattle.steps.specs.declared.Move.{Move}
 use Rattle.steps.specs.Steps.{phaseOf, asksFor, isOn, isUp, asksToStart}
 use Rattle.steps.specs.After.{firstDown, stepAfter}
-use Rattle.handing.specs.Handing.{moveRecords, recovery}
+use Rattle.handing.specs.Handing.{moveRecords, recovery, reset}
 use Rattle.network.specs.declared.Report.{Report}
 use Rattle.network.specs.declared.State.{State}
 use Rattle.network.specs.State.{started}
@@ -21,10 +23,11 @@ use Rattle.network.specs.Rules.{outfitOf}
 use Rattle.network.specs.Moving.{asksAfter, afterMove}
 use Rattle.network.specs.Answers.{awaits, takesReport}
 use Rattle.network.specs.BusOff.{madeAnew, afterHit}
-use Rattle.network.specs.Parts.{Sight, aTick, aBusOff}
+use Rattle.network.specs.Parts.{Sight, aTick, aBusOff, aStall}
 use Rattle.network_theorems.specs.Kept.{Kept}
+use Rattle.network_theorems.proofs.Moves.{full-quiet}
 use Rattle.network_demands.specs.Words.{hands, Seen, OwnHistory, since, isTick, shut, wanted, up, rested, calledUp, on, awaited, askedToStart}
-use Rattle.network_demands.specs.Own.{finished, decides, reaches, recovered, played, stateOf, Fits, Ran}
+use Rattle.network_demands.specs.Own.{finished, decides, reaches, played, stateOf, Fits, Ran}
 use Rattle.network_demands.proofs.Views.{either-way, seen, by-part}
 use Rattle.network_demands.proofs.Handed.{isGoDown, isEnd, move-shuts, move-says-no, given, nothing-lowered}
 use Rattle.network_demands.proofs.Up.{any-since}
@@ -95,16 +98,17 @@ carries n g done reached = record {
   stays-silent = record { rested = refl; on = refl; begun = λ told. refl; suited = refl };
   waits = λ wanted w d. record { rested = refl; on = or-true (eqb 2 (modeNumber wanted)); begun = λ told. refl; suited = refl };
   waits-on = λ t wanted w r. record { rested = refl; on = or-true (eqb 2 (modeNumber wanted)); begun = λ told. refl; suited = refl };
+  resumes = λ wanted w d. record { rested = refl; on = or-true (eqb 2 (modeNumber wanted)); begun = λ told. refl; suited = refl };
   fills = λ step q f. record {
-    rested = up-rested (phaseOf step) (q .up);
-    on = rw (up-rested (phaseOf step) (q .up)) refl;
-    begun = λ told. rw (q .up) refl;
+    rested = up-rested (phaseOf step) q;
+    on = rw (up-rested (phaseOf step) q) refl;
+    begun = λ told. rw q refl;
     suited = refl;
   };
   silences = λ step q. record {
-    rested = up-rested (phaseOf step) (q .up);
-    on = rw (up-rested (phaseOf step) (q .up)) (up-on (phaseOf step) (q .up));
-    begun = λ told. rw (q .up) refl;
+    rested = up-rested (phaseOf step) q;
+    on = rw (up-rested (phaseOf step) q) (up-on (phaseOf step) q);
+    begun = λ told. rw q refl;
     suited = refl;
   };
   goes-down = λ step o. let d = down-groups (n .partial) in
@@ -123,6 +127,10 @@ carries n g done reached = record {
   };
 }
 
+-- the second of two that hold
+and-right : (a b : Bool) → a && b ≡ true → b ≡ true
+and-right a b e = and-both a b e .1
+
 -- ---- all that is seen
 -- at rest and called up, after a move
 both-on : (a b r w c : Bool) → cond a false (b || r) && cond b false (w || c) ≡ cond a false (cond b false ((r && w) || (r && c)))
@@ -139,16 +147,26 @@ module _ (n : Network) (h : OwnHistory) where
   stands-quiet step sight accepted t i =
       record { rested = i .rested; on = rw t (i .on); begun = i .begun; suited = i .suited }
 
-  -- a bus-off while up
-  stands-fall : (s : State) → isUp (s .step) ≡ true → StandsIn n (s .step) h
-      → StandsIn n (recovered s .step) (seen aBusOff true (recovery (n .handle)) ∷ h)
-  unfolding since any calledUp recovery afterHit madeAnew
-  stands-fall s u i = record {
-    rested = i .rested ∙ up-rested (phaseOf (s .step)) u;
-    on = i .on ∙ up-on (phaseOf (s .step)) u;
-    begun = λ c m. i .begun c m ∙ rw u refl;
-    suited = refl;
-  }
+  -- a bus-off while up, or a stall: the network is up before it and after it
+  module _ (step next : Step) (sight : Sight) (records : List Record) where
+    abbrev striking : Seen
+    striking = seen sight true records
+
+    stands-struck : isTick sight ≡ false → hands 6 (n .handle) 0 striking ≡ false → shut n striking ≡ false
+        → ((c : ℕ) → hands 1 c 1 striking ≡ false) → isUp step ≡ true → isUp next ≡ true → suits (ownOutfit n) next ≡ true
+        → StandsIn n step h → StandsIn n next (striking ∷ h)
+    unfolding calledUp
+    stands-struck t silence down starts u v suited i =
+        let rests : rested n (striking ∷ h) ≡ true =
+        any-since (hands 6 (n .handle) 0) (shut n) striking h ∙ rw (silence, down) (i .rested ∙ up-rested (phaseOf step) u) in
+        let called : calledUp n (striking ∷ h) ≡ true =
+        rw (silence, t) (and-right (rested n h) (calledUp n h) (i .on ∙ up-on (phaseOf step) u)) in
+        record {
+          rested = rests ∙ sym (up-rested (phaseOf next) v);
+          on = rw (rests, called) (sym (up-on (phaseOf next) v));
+          begun = λ c m. any-since (hands 1 c 1) (shut n) striking h ∙ rw (starts c, down, i .begun c m, u, v) refl;
+          suited = suited;
+        }
 
   -- a tick
   module _ (step : Step) (mode told : Mode) (m : Move) where
@@ -175,13 +193,14 @@ module _ (n : Network) (h : OwnHistory) where
 
   stands-call : InRange n → (s : State) → Kept n s → modeNumber (s .wanted) ≡ wanted h → StandsIn n (s .step) h → (e : Seen) → Fits n s e
       → StandsIn n (played n s (e .sight) .state .step) (e ∷ h)
-  unfolding afterMove afterHit madeAnew
+  unfolding afterMove afterHit madeAnew any recovery reset
   stands-call g s k w i = by-part n s (λ e t. StandsIn n (t .step) (e ∷ h)) (record {
     plain = λ sight accepted mode reported p. stands-quiet (s .step) sight accepted (p .tick) i;
     hears = λ c mode ok m l e. stands-quiet (s .step) _ true refl i;
-    recovers = λ u. stands-fall s u i;
+    recovers = λ u. stands-struck (s .step) _ aBusOff (recovery (n .handle)) refl refl refl (λ c. refl) u refl refl i;
     restarts = λ u a. stands-quiet (s .step) aBusOff true refl i;
     not-taken = λ u a. stands-quiet (s .step) aBusOff false refl i;
+    resets = λ f. stands-struck (s .step) _ aStall (reset (n .handle)) refl refl refl (λ c. refl) (full-quiet (s .step) f .up) refl refl i;
     ticks = stands-move (s .step) (s .wanted) _ (decides n s) w i
         (by-tick-arrow n s (Carries n) (carries n g (finished n s) (reaches n s)) (i .suited) k);
   })
@@ -217,6 +236,7 @@ asks-now partial done reached outfit report = record {
   stays-silent = λ told asked. either-way asked false;
   waits = λ wanted w d told asked. refl;
   waits-on = λ t wanted w r told asked. either-way asked false;
+  resumes = λ wanted w d told asked. refl;
   fills = λ step q f told asked. refl;
   silences = λ step q told asked. refl;
   goes-down = λ step o told asked. rw (nothing-lowered told) refl;
@@ -230,11 +250,12 @@ module _ (n : Network) (kind target argument : ℕ) (report : Report) (q : Reque
       → awaited kind target argument (e ∷ h) ≡ takesReport (played n s (e .sight) .state) report
   unfolding awaited takesReport afterMove afterHit madeAnew any
   awaits-call h s k u i = by-part n s (λ e t. awaited kind target argument (e ∷ h) ≡ takesReport t report) (record {
-    plain = λ sight accepted mode reported p. rw (p .tick, p .bus-off) i;
+    plain = λ sight accepted mode reported p. rw (p .tick, p .bus-off, p .stall) i;
     hears = λ c mode ok m l e. i;
     recovers = λ u. refl;
     restarts = λ u a. refl;
     not-taken = λ u a. i;
+    resets = λ f. refl;
     ticks = q (s .step) (s .told) (decides n s)
         ∙ by-tick-arrow n s (AsksNow (n .partial) report) (asks-now (n .partial) (finished n s) (reaches n s) (ownOutfit n) report) u k
         (s .told) (s .asked);

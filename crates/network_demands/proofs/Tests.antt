@@ -1,32 +1,49 @@
--- What demand 3 and the promises need of a network's two tests: that its step is done, and that its time is reached. Where a box has other tests,
--- that which is false of them is refused here.
-use Rattle.lists.proofs.Basics.{ℕ, _+_, _≡_, sym, ap, _∙_, Bool, true, false, cond, false≢true, leb}
+-- What demand 3 and the promises need of a network's three tests: that its step is done, that its time is reached, and that it takes a stall. Where a
+-- box has other tests, that which is false of them is refused here.
+use Rattle.lists.proofs.Basics.{ℕ, _+_, _≡_, refl, sym, ap, _∙_, Bool, true, false, cond, false≢true, leb}
 use Rattle.lists.specs.Lists.{every}
 use Rattle.records.specs.declared.ControllerMode.{ControllerMode}
 use Rattle.settings.specs.declared.Network.{Network}
 use Rattle.steps.specs.declared.Step.{Step}
 use Rattle.steps.specs.declared.Step.the-variants.{Checking, Waiting}
 use Rattle.steps.specs.declared.Ask.{Ask}
-use Rattle.steps.specs.Steps.{asksFor, timerOf}
+use Rattle.steps.specs.Steps.{asksFor, timerOf, isFullStep}
+use Rattle.network.specs.declared.Hit.{Hit}
 use Rattle.network.specs.declared.State.{State}
 use Rattle.network.specs.State.{heardOf}
 use Rattle.network.specs.Rules.{doneBy, isOkay, isDone, delayOf, reachedBy}
-use Rattle.network_demands.specs.Own.{finished, reaches}
+use Rattle.network.specs.BusOff.{stallOf}
+use Rattle.network_demands.specs.Own.{finished, reaches, stalls}
 
 -- what holds only once asked
 pub once-asked : (asked x : Bool) → cond asked x false ≡ true → x ≡ true
 once-asked true x e = e
 once-asked false x e = absurd (false≢true e)
 
+-- a stall is taken just in the full steps
+pub stalls-just : (step : Step) → stalls step ≡ cond (isFullStep step) Hit.Reset Hit.NotTaken
+unfolding stallOf
+stalls-just step = refl
+
 -- whatever the delay is, the time of step 4 is the ensure time
 checked-by : (ensure delay t : ℕ) (step : Step) → step ≡ Checking t → reachedBy (timerOf step) ensure delay ≡ leb ensure (t + 1)
 checked-by ensure delay t step f = ap (λ (step : Step). reachedBy (timerOf step) ensure delay) f
 
 module _ (n : Network) (s : State) where
-  -- a step that asks the controllers to start is done just where it has asked and the last answer of each is ok
-  pub finished-just : asksFor (s .step) ≡ Ask.Controllers ControllerMode.Started → finished n s ≡ cond (s .asked) (every isOkay (heardOf n s)) false
+  -- a step that asks the controllers for a mode is done just where it has asked and the last answer of each is ok
+  pub finished-just : (mode : ControllerMode) → asksFor (s .step) ≡ Ask.Controllers mode
+      → finished n s ≡ cond (s .asked) (every isOkay (heardOf n s)) false
   unfolding isDone
-  finished-just f = ap (λ (ask : Ask). cond (s .asked) (doneBy ask (heardOf n s) (s .reported)) false) f
+  finished-just mode f = ap (λ (ask : Ask). cond (s .asked) (doneBy ask (heardOf n s) (s .reported)) false) f
+
+  -- a step is done only where it has asked
+  pub finished-asked : finished n s ≡ true → s .asked ≡ true
+  unfolding isDone
+  finished-asked e = by-test (s .asked) e
+    where
+      by-test : (b : Bool) → cond b (doneBy (asksFor (s .step)) (heardOf n s) (s .reported)) false ≡ true → b ≡ true
+      by-test true e = refl
+      by-test false e = absurd (false≢true e)
 
   -- the time of step 7 is reached just where the delay of the count has passed with this tick
   pub reaches-just : (t : ℕ) → s .step ≡ Waiting t → reaches n s ≡ leb (delayOf n (s .count)) (t + 1)

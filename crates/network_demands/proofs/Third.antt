@@ -6,6 +6,7 @@ use Rattle.lists.proofs.Basics.{true≢false, leb, ltb, eqb}
 use mathlib.Core.Bool.{and-true}
 use Rattle.lists.specs.Lists.{any}
 use Rattle.lists.proofs.Any.{any-append, and-both}
+use Rattle.lists.proofs.Tests.{split}
 use Rattle.records.specs.declared.Mode.{Mode}
 use Rattle.records.specs.Records.{modeNumber}
 use Rattle.settings.specs.declared.Network.{Network}
@@ -14,15 +15,17 @@ use Rattle.settings.specs.Good.{Distinct, InRange}
 use Rattle.steps.specs.declared.Step.{Step}
 use Rattle.steps.specs.declared.Move.{Move}
 use Rattle.steps.specs.Steps.{isFullStep}
-use Rattle.handing.specs.Handing.{recovery}
+use Rattle.handing.specs.Handing.{recovery, reset}
 use Rattle.network.specs.declared.State.{State}
 use Rattle.network.specs.Moving.{toldAfter, afterMove}
 use Rattle.network.specs.BusOff.{madeAnew, afterHit}
 use Rattle.network_theorems.specs.Kept.{isFullMode}
 use Rattle.network_theorems.proofs.Moves.{ByMove}
 use Rattle.network_theorems.proofs.Kept.{lowered-not-full}
-use Rattle.network_demands.specs.Words.{hands, Seen, OwnHistory, since, never, tally, isAnswer, ticked, fell, shut, told, wanted, setback, up}
-use Rattle.network_demands.specs.Words.{fellUp, delayAt, askedToStart, runs, firstRunning, fullAtTicks, waiting, promptly, saysNo, wantedAtTick}
+use Rattle.network_demands.specs.Words.{hands, Seen, OwnHistory, since, never, tally, isAnswerOn, isAnswer, ticked, fell, stalled, shut, told}
+use Rattle.network_demands.specs.Words.{wanted}
+use Rattle.network_demands.specs.Words.{setback, up, fellUp, falls, delayAt, owed, askedToStart, runs, firstRunning, fullAtTicks, waiting}
+use Rattle.network_demands.specs.Words.{promptly, saysNo, wantedAtTick}
 use Rattle.network_demands.specs.Words.{GoodConditions, OnJustThatTick, SaidFrom}
 use Rattle.network_demands.specs.Own.{finished, decides, stateOf, Fits, Ran}
 use Rattle.network_demands.proofs.Views.{by-part, by-tick}
@@ -35,54 +38,58 @@ use Rattle.network_demands.proofs.Turns.{goes-down}
 use Rattle.network_demands.proofs.Running.{first-stays, first-no-tick, first-tick, none-run}
 use Rattle.network_demands.proofs.Way.{starts-not-full}
 use Rattle.network_demands.proofs.Told.{full-mode-number, asked-by-tick, okay-accepted}
-use Rattle.network_demands.proofs.Second.{never-first, never-rest, since-on, since-bus-off, late-answers}
+use Rattle.network_demands.proofs.Second.{never-first, never-rest, no-setbacks, since-on, since-setback, fell-back, owed-bus-off}
+use Rattle.network_demands.proofs.Second.{late-answers}
 
 -- ---- the good conditions, by the last entry and those before it
 when : (a b : Bool) → cond a b true ≡ true → a ≡ true → b ≡ true
 when true b e q = e
 when false b e q = absurd (false≢true q)
 
-full-more : (e : Seen) (s h : OwnHistory) → fullAtTicks (e ∷ s) h ≡ true → (ticked e ≡ true → wanted (s ++ h) ≡ 2) × (fullAtTicks s h ≡ true)
+pub full-more : (e : Seen) (s h : OwnHistory) → fullAtTicks (e ∷ s) h ≡ true → (ticked e ≡ true → wanted (s ++ h) ≡ 2) × (fullAtTicks s h ≡ true)
 unfolding fullAtTicks
 full-more e s h a =
     let x = and-both (cond (ticked e) (eqb 2 (wanted (s ++ h))) true) _ a in
     (λ t. sym (eqb-true 2 (wanted (s ++ h)) (when (ticked e) _ (x .0) t)), x .1)
 
-prompt-more : (n : Network) (e : Seen) (s : OwnHistory) → promptly n (e ∷ s) ≡ true
-    → (ticked e ≡ true → (c : ℕ) → member c (controllersOf n) ≡ true → waiting c s ≡ false) × (promptly n s ≡ true)
+pub prompt-more : (mode : ℕ) (n : Network) (e : Seen) (s : OwnHistory) → promptly mode n (e ∷ s) ≡ true
+    → (ticked e ≡ true → (c : ℕ) → member c (controllersOf n) ≡ true → waiting mode c s ≡ false) × (promptly mode n s ≡ true)
 unfolding promptly
-prompt-more n e s a =
-    let x = and-both (cond (ticked e) (not (any (λ (c : ℕ). waiting c s) (controllersOf n))) true) _ a in
+prompt-more mode n e s a =
+    let x = and-both (cond (ticked e) (not (any (λ (c : ℕ). waiting mode c s) (controllersOf n))) true) _ a in
     (λ t c m. none-waits c m (when (ticked e) _ (x .0) t), x .1)
   where
-    none-waits : (c : ℕ) → member c (controllersOf n) ≡ true → not (any (λ (c : ℕ). waiting c s) (controllersOf n)) ≡ true → waiting c s ≡ false
-    none-waits c m e = by-test (waiting c s) refl
+    none-waits : (c : ℕ) → member c (controllersOf n) ≡ true → not (any (λ (c : ℕ). waiting mode c s) (controllersOf n)) ≡ true
+        → waiting mode c s ≡ false
+    none-waits c m e = by-test (waiting mode c s) refl
       where
-        by-test : (b : Bool) → waiting c s ≡ b → b ≡ false
-        by-test true q = absurd (false≢true (sym (ap not (any-member (λ (c : ℕ). waiting c s) c (controllersOf n) m q)) ∙ e))
+        by-test : (b : Bool) → waiting mode c s ≡ b → b ≡ false
+        by-test true q = absurd (false≢true (sym (ap not (any-member (λ (c : ℕ). waiting mode c s) c (controllersOf n) m q)) ∙ e))
         by-test false q = refl
 
 -- the good conditions of a history are those of its beginning
-shorter : (n : Network) (e : Seen) (s h : OwnHistory) → GoodConditions n (e ∷ s) h → GoodConditions n s h
+pub shorter : (n : Network) (e : Seen) (s h : OwnHistory) → GoodConditions n (e ∷ s) h → GoodConditions n s h
 shorter n e s h i =
     record {
       full = full-more e s h (i .full) .1;
-      prompt = prompt-more n e s (i .prompt) .1;
-      only-ok = never-rest (saysNo n) e s (i .only-ok);
+      prompt = prompt-more 1 n e s (i .prompt) .1;
+      only-ok = never-rest (saysNo 1 n) e s (i .only-ok);
       calm = never-rest fell e s (i .calm);
+      unstalled = never-rest stalled e s (i .unstalled);
     }
 
 -- ---- shutdowns
 -- only where no is wanted does a tick begin a shutdown, and nothing else does
 shut-when-no : (n : Network) → InRange n → (e : Seen) (h : OwnHistory) → Ran n (e ∷ h) → shut n e ≡ true
     → (ticked e ≡ true) × (fell e ≡ false) × (eqb 0 (wanted h) ≡ true)
-unfolding Ran any recovery
+unfolding Ran any recovery reset
 shut-when-no n g e h r = by-part n s (λ e t. shut n e ≡ true → (ticked e ≡ true) × (fell e ≡ false) × (eqb 0 (wanted h) ≡ true)) (record {
   plain = λ sight accepted mode reported p z. absurd (false≢true z);
   hears = λ c mode ok m l t z. absurd (false≢true z);
   recovers = λ u z. absurd (false≢true z);
   restarts = λ u a z. absurd (false≢true z);
   not-taken = λ u a z. absurd (false≢true z);
+  resets = λ u z. absurd (false≢true z);
   ticks = λ z.
       let no = and-both (eqb 0 (modeNumber (s .wanted))) _
       (sym (goes-down n s (stands n g h (r .1) .suited) (state-kept n g h (r .1))) ∙ sym (move-shuts n (s .step) _ (decides n s)) ∙ z) .0 in
@@ -110,7 +117,7 @@ fall-shuts-not n g e h r f = by-test (shut n e) refl
     by-test true z = absurd (true≢false (sym f ∙ shut-when-no n g e h r z .1))
     by-test false z = refl
 
-no-shutdown : (n : Network) → InRange n → (s h : OwnHistory) → Ran n (s ++ h) → fullAtTicks s h ≡ true → never (shut n) s
+pub no-shutdown : (n : Network) → InRange n → (s h : OwnHistory) → Ran n (s ++ h) → fullAtTicks s h ≡ true → never (shut n) s
 unfolding Ran any
 no-shutdown n g [] h r a = refl
 no-shutdown n g (e ∷ s) h r a =
@@ -157,9 +164,9 @@ full-told : (n : Network) (h : OwnHistory) → Ran n h → isFullMode (stateOf n
 full-told n h r = sym (full-mode-number (stateOf n h .told)) ∙ ap (eqb 2) (told-follows n h r)
 
 -- an entry hands out 6 full exactly if full is told after it and was not before
-says-full : (n : Network) → InRange n → (t : Seen) (h : OwnHistory) → Ran n (t ∷ h)
+pub says-full : (n : Network) → InRange n → (t : Seen) (h : OwnHistory) → Ran n (t ∷ h)
     → hands 6 (n .handle) 2 t ≡ (eqb 2 (told n (t ∷ h)) && not (eqb 2 (told n h)))
-unfolding Ran stateOf any recovery afterMove afterHit madeAnew
+unfolding Ran stateOf any recovery reset afterMove afterHit madeAnew
 says-full n g t h r =
     by-part n w (λ e x. hands 6 (n .handle) 2 e ≡ (isFullMode (x .told) && not (isFullMode (w .told)))) (record {
       plain = λ sight accepted mode reported p. both-not (isFullMode (w .told));
@@ -167,6 +174,7 @@ says-full n g t h r =
       recovers = λ u. refl;
       restarts = λ u a. both-not (isFullMode (w .told));
       not-taken = λ u a. both-not (isFullMode (w .told));
+      resets = λ u. refl;
       ticks = move-says-full n (w .step) _ (decides n w)
           ∙ by-tick n w (SaysNow (w .told)) (says-now (w .told) (finished n w)) (state-kept n g h (r .1) .told);
     }) t (r .0)
@@ -177,18 +185,19 @@ says-full n g t h r =
 
 -- ---- after a bus-off while up, under good conditions
 -- what ran by the rules did so from the beginning
-ran-earlier : (n : Network) (s h : OwnHistory) → Ran n (s ++ h) → Ran n h
+pub ran-earlier : (n : Network) (s h : OwnHistory) → Ran n (s ++ h) → Ran n h
 unfolding Ran
 ran-earlier n [] h r = r
 ran-earlier n (e ∷ s) h r = ran-earlier n s h (r .1)
 
 -- who does not say no does not answer with not ok
-not-no : (n : Network) (e : Seen) → saysNo n e ≡ false → (c : ℕ) → member c (controllersOf n) ≡ true → isAnswer c 0 (e .sight) && e .accepted ≡ false
-not-no n e f c m = by-test (isAnswer c 0 (e .sight) && e .accepted) refl
+pub not-no : (mode : ℕ) (n : Network) (e : Seen) → saysNo mode n e ≡ false → (c : ℕ) → member c (controllersOf n) ≡ true
+    → isAnswerOn c mode 0 (e .sight) && e .accepted ≡ false
+not-no mode n e f c m = by-test (isAnswerOn c mode 0 (e .sight) && e .accepted) refl
   where
-    by-test : (b : Bool) → isAnswer c 0 (e .sight) && e .accepted ≡ b → b ≡ false
+    by-test : (b : Bool) → isAnswerOn c mode 0 (e .sight) && e .accepted ≡ b → b ≡ false
     by-test true q =
-        absurd (true≢false (sym (any-member (λ (c : ℕ). isAnswer c 0 (e .sight) && e .accepted) c (controllersOf n) m q) ∙ f))
+        absurd (true≢false (sym (any-member (λ (c : ℕ). isAnswerOn c mode 0 (e .sight) && e .accepted) c (controllersOf n) m q) ∙ f))
     by-test false q = refl
 
 -- where there is no such tick yet there was none before
@@ -199,6 +208,10 @@ first-before n e s z = by-number (firstRunning n s) refl
     by-number zero q = refl
     by-number (suc k) q = absurd (omega (arith, first-stays n e s (omega (arith, q)), q, z))
 
+-- no delay is 0
+delay-some : (n : Network) → InRange n → (h : OwnHistory) → 0 < delayAt n h
+delay-some n g h = split (λ (d : ℕ). 0 < d) (ltb (n .threshold) (falls n h)) (λ _. g .long .0) (λ _. g .short .0)
+
 module _ (n : Network) (g : InRange n) (f : Distinct (controllersOf n)) (b : Seen) (h : OwnHistory) (u : fellUp n b h ≡ true) where
   -- the whole history
   abbrev all : OwnHistory → OwnHistory
@@ -208,8 +221,15 @@ module _ (n : Network) (g : InRange n) (f : Distinct (controllersOf n)) (b : See
     no-down : never (shut n) s
     no-down = no-shutdown n g s (b ∷ h) r (i .full)
 
+    no-setback : never (setback n) s
+    no-setback = no-setbacks n s (i .calm) (i .unstalled) no-down
+
     since-b : since (setback n) (all s) ≡ s
-    since-b = since-bus-off n s b h u (i .calm) no-down
+    since-b = since-setback n s b h (fell-back n s b h u no-setback) no-setback
+
+    -- a delay is owed
+    still-owed : 0 < owed n (all s)
+    still-owed = rw (owed-bus-off n s b h u no-setback) (delay-some n g (b ∷ h))
 
     -- the network is still up
     still-up : up n (all s) ≡ true
@@ -224,18 +244,18 @@ module _ (n : Network) (g : InRange n) (f : Distinct (controllersOf n)) (b : See
     asked-since : firstRunning n s ≡ 0 → (c : ℕ) → member c (controllersOf n) ≡ true → askedToStart c s ≡ ltb 0 (tally ticked s)
     asked-since = subst
         (λ (q : OwnHistory). firstRunning n q ≡ 0 → (c : ℕ) → member c (controllersOf n) ≡ true → askedToStart c q ≡ ltb 0 (tally ticked q))
-        since-b (asked-by-tick n g f (all s) r still-up)
+        since-b (asked-by-tick n g f (all s) r still-owed)
 
     accepted-since : firstRunning n s ≡ 0 → (e : Seen) → Fits n (stateOf n (all s)) e → 0 < tally ticked s
         → (c : ℕ) → member c (controllersOf n) ≡ true → isAnswer c 1 (e .sight) ≡ true → e .accepted ≡ true
     accepted-since = subst (λ (q : OwnHistory). firstRunning n q ≡ 0 → (e : Seen) → Fits n (stateOf n (all s)) e → 0 < tally ticked q
         → (c : ℕ) → member c (controllersOf n) ≡ true → isAnswer c 1 (e .sight) ≡ true → e .accepted ≡ true)
-        since-b (okay-accepted n g f (all s) r still-up)
+        since-b (okay-accepted n g f (all s) r still-owed)
 
   -- who is not waited for, once a tick came, runs: an entry more
   heard-more : (e : Seen) (s : OwnHistory) → Ran n (all (e ∷ s)) → GoodConditions n (e ∷ s) (b ∷ h) → firstRunning n (e ∷ s) ≡ 0
       → 0 < tally ticked (e ∷ s) → (c : ℕ) → member c (controllersOf n) ≡ true
-      → (0 < tally ticked s → waiting c s ≡ false → runs c s ≡ true) → waiting c (e ∷ s) ≡ false → runs c (e ∷ s) ≡ true
+      → (0 < tally ticked s → waiting 1 c s ≡ false → runs c s ≡ true) → waiting 1 c (e ∷ s) ≡ false → runs c (e ∷ s) ≡ true
   unfolding Ran any waiting runs
   heard-more e s r i z l c m earlier = by-request (hands 1 c 1 e) refl
     where
@@ -245,20 +265,20 @@ module _ (n : Network) (g : InRange n) (f : Distinct (controllersOf n)) (b : See
       now : askedToStart c (e ∷ s) ≡ true
       now = asked-since (e ∷ s) r i z c m ∙ lt-ltb 0 (tally ticked (e ∷ s)) l
 
-      by-answer : (a : Bool) → isAnswer c 1 (e .sight) ≡ a → askedToStart c s ≡ true → cond a false (waiting c s) ≡ false
+      by-answer : (a : Bool) → isAnswer c 1 (e .sight) ≡ a → askedToStart c s ≡ true → cond a false (waiting 1 c s) ≡ false
           → cond (a && e .accepted) (askedToStart c s) (cond (isAnswer c 0 (e .sight) && e .accepted) false (runs c s)) ≡ true
       by-answer true o asked q =
           let some = ltb-true 0 (tally ticked s) (sym before ∙ asked) in
           rw (accepted-since s (r .1) (shorter n e s (b ∷ h) i) (first-before n e s z) e (r .0) some c m o) asked
       by-answer false o asked q =
-          rw (not-no n e (never-first (saysNo n) e s (i .only-ok)) c m) (earlier (ltb-true 0 (tally ticked s) (sym before ∙ asked)) q)
+          rw (not-no 1 n e (never-first (saysNo 1 n) e s (i .only-ok)) c m) (earlier (ltb-true 0 (tally ticked s) (sym before ∙ asked)) q)
 
-      by-request : (a : Bool) → hands 1 c 1 e ≡ a → cond a true (cond (isAnswer c 1 (e .sight)) false (waiting c s)) ≡ false → runs c (e ∷ s) ≡ true
+      by-request : (a : Bool) → hands 1 c 1 e ≡ a → cond a true (cond (isAnswer c 1 (e .sight)) false (waiting 1 c s)) ≡ false → runs c (e ∷ s) ≡ true
       by-request true a q = absurd (true≢false q)
       by-request false a q = by-answer (isAnswer c 1 (e .sight)) refl (sym (ap (λ (x : Bool). x || askedToStart c s) a) ∙ now) q
 
   heard-all : (s : OwnHistory) → Ran n (all s) → GoodConditions n s (b ∷ h) → firstRunning n s ≡ 0 → 0 < tally ticked s
-      → (c : ℕ) → member c (controllersOf n) ≡ true → waiting c s ≡ false → runs c s ≡ true
+      → (c : ℕ) → member c (controllersOf n) ≡ true → waiting 1 c s ≡ false → runs c s ≡ true
   unfolding Ran tally
   heard-all [] r i z l c m = absurd (omega arith)
   heard-all (e ∷ s) r i z l c m =
@@ -279,7 +299,7 @@ module _ (n : Network) (g : InRange n) (f : Distinct (controllersOf n)) (b : See
           let z : firstRunning n s ≡ 0 = k ∙ rw q refl in
           let run = heard-all s (r .1) (shorter n e s (b ∷ h) i) z (omega (arith, q)) in
           first-tick n e s t z
-          ∙ rw (each-member (λ (c : ℕ). runs c s) (controllersOf n) (λ c m. run c m (prompt-more n e s (i .prompt) .0 t c m)), q) refl
+          ∙ rw (each-member (λ (c : ℕ). runs c s) (controllersOf n) (λ c m. run c m (prompt-more 1 n e s (i .prompt) .0 t c m)), q) refl
       by-count t (suc (suc ticks)) q =
           let two : firstRunning n s ≡ 2 = k ∙ rw (lt-ltb 1 (tally ticked s) (omega (arith, q))) refl in
           first-stays n e s (omega (arith, two)) ∙ two ∙ rw (lt-ltb 1 (suc (suc (suc ticks))) (omega arith)) refl
@@ -297,7 +317,7 @@ module _ (n : Network) (g : InRange n) (f : Distinct (controllersOf n)) (b : See
   full-from : (s : OwnHistory) → Ran n (all s) → GoodConditions n s (b ∷ h)
       → eqb 2 (told n (all s)) ≡ leb (delayAt n (b ∷ h) + 2) (tally ticked s)
   full-from s r i =
-      late-answers n g f s b h r u (i .calm) (no-down s r i) .0
+      late-answers n g f s b h r u (i .calm) (i .unstalled) (no-down s r i) .0
       ∙ ap (λ (k : ℕ). ltb 0 k && (leb (k + d) (tally ticked s) && eqb 2 (wantedAtTick (all s)))) (second-tick s r i)
       ∙ by-test (ltb 1 (tally ticked s)) refl
     where
@@ -325,7 +345,7 @@ module _ (n : Network) (g : InRange n) (f : Distinct (controllersOf n)) (b : See
       (voice .silence ∙ ap not (voice .voice (sym (voice .stands) ∙ still-up s r i))) (ap (eqb 2) same ∙ full-from s r i)
 
 -- a number is reached now and was not before
-just-reached : (d t : ℕ) → (leb d (suc t) && not (leb d t)) ≡ eqb d (suc t)
+pub just-reached : (d t : ℕ) → (leb d (suc t) && not (leb d t)) ≡ eqb d (suc t)
 just-reached d t = by-test (leb d (suc t)) (leb d t) refl refl
   where
     by-test : (a c : Bool) → leb d (suc t) ≡ a → leb d t ≡ c → (a && not c) ≡ eqb d (suc t)

@@ -1,4 +1,4 @@
--- The promises on ticks, for one network: what a tick hands out, when, and that else only a bus-off hands out anything.
+-- The promises on ticks, for one network: what a tick hands out, when, and that else only a bus-off and a stall hand out anything.
 use Rattle.lists.proofs.Basics.{ℕ, _+_, _≤_, _<_, arith, eq-eqb, _≡_, refl, sym, ap, _∙_, [], _∷_, _++_, Bool, true, false, _&&_, cond, false≢true}
 use Rattle.lists.proofs.Basics.{true≢false, eqb, leb, ltb, length}
 use Rattle.lists.specs.Lists.{any}
@@ -17,13 +17,14 @@ use Rattle.steps.specs.declared.Move.{Move}
 use Rattle.steps.specs.declared.Move.the-variants.{Stay, AskAgain, Count, EnterFull, EnterSilent, Pass, Wait, GoDown, EnterNoCommunication, Enter}
 use Rattle.steps.specs.Steps.{asksFor, isFullStep}
 use Rattle.steps.specs.After.{firstDown, stepAfter}
-use Rattle.handing.specs.Handing.{requests, downNotices, goingDown, moveRecords, recovery}
+use Rattle.handing.specs.Handing.{requests, downNotices, goingDown, moveRecords, recovery, reset}
 use Rattle.handing.proofs.Laws.{length-move}
 use Rattle.network.specs.declared.State.{State}
 use Rattle.network.specs.Moving.{afterMove}
-use Rattle.network.specs.Parts.{Sight, aTick, aBusOff, anAnswer}
+use Rattle.network.specs.Parts.{Sight, aTick, aBusOff, aStall, anAnswer}
 use Rattle.network_theorems.specs.Kept.{Kept}
-use Rattle.network_demands.specs.Words.{Seen, OwnHistory, is, hands, ticked, isTick, fell, isBusOff, shut, cleared, told, wanted, up, fellUp}
+use Rattle.network_demands.specs.Words.{Seen, OwnHistory, is, hands, ticked, isTick, fell, isBusOff, isStall, shut, cleared, told, wanted, up}
+use Rattle.network_demands.specs.Words.{fellUp}
 use Rattle.network_demands.specs.Own.{decides, tickAfter, tickHands, stateOf, Ran}
 use Rattle.network_demands.specs.Promises.{Shutdown, highest, Ticks}
 use Rattle.network_demands.proofs.Views.{seen, by-part}
@@ -32,19 +33,20 @@ use Rattle.network_demands.proofs.Handed.{move-says-full, move-notes-fu
 use Rattle.network_demands.proofs.Handed.{move-silent-alone, move-says-no, move-hands-none}
 use Rattle.network_demands.proofs.Up.{up-means}
 use Rattle.network_demands.proofs.Follows.{state-kept, Follows, follows}
-use Rattle.network_demands.proofs.Told.{full-mode-number}
+use Rattle.network_demands.proofs.Told.{full-mode-number, told-in-full}
 use Rattle.network_demands.proofs.Standing.{StandsIn, stands}
 use Rattle.network_demands.proofs.Turns.{full-stays, full-begins, ends, goes-down, begins, sinks, full-rests}
 use Rattle.network_demands.proofs.Checked.{sinceFull, since-full-tick, checked-tick, checked}
 use Rattle.network_demands.proofs.Readied.{done-prepared}
+use Rattle.network_demands.proofs.Stops.{in-step-15, done-stopped}
 use Rattle.network_demands.proofs.Waits.{wait-begins}
 
 -- ---- what is no tick
--- it hands out nothing but what a bus-off while up does: a test that none of these three passes is passed by no record of it
+-- it hands out nothing but what a bus-off while up or a stall does: a test that none of these three passes is passed by no record of it
 apart-ticks : (n : Network) (e : Seen) (h : OwnHistory) → ticked e ≡ false
     → ((p : Record → Bool) → p (handed 8 (n .handle) 1) ≡ false → p (handed 6 (n .handle) 1) ≡ false → p (handed 7 (n .handle) 3) ≡ false
     → any p (e .records) ≡ false) → hands 7 (n .handle) 3 e ≡ fellUp n e h → hands 8 (n .handle) 1 e ≡ fellUp n e h
-    → (fell e ≡ false → e .records ≡ []) → Ticks n e h
+    → (fell e ≡ false → isStall (e .sight) ≡ false → e .records ≡ []) → Ticks n e h
 apart-ticks n e h t none notes prefails nothing =
     let full : hands 6 (n .handle) 2 e ≡ false = none (is 6 (n .handle) 2) refl refl refl in
     let silent : hands 7 (n .handle) 1 e ≡ false = none (is 7 (n .handle) 1) refl refl refl in
@@ -79,14 +81,20 @@ apart-ticks n e h t none notes prefails nothing =
 quiet-ticks : (n : Network) (sight : Sight) (accepted : Bool) (h : OwnHistory) → isTick sight ≡ false → isBusOff sight && up n h ≡ false
     → Ticks n (seen sight accepted []) h
 unfolding any
-quiet-ticks n sight accepted h t f = apart-ticks n (seen sight accepted []) h t (λ p a b c. refl) (sym f) (sym f) (λ _. refl)
+quiet-ticks n sight accepted h t f = apart-ticks n (seen sight accepted []) h t (λ p a b c. refl) (sym f) (sym f) (λ _ _. refl)
 
 -- a bus-off while up
 fall-ticks : (n : Network) (h : OwnHistory) → up n h ≡ true → Ticks n (seen aBusOff true (recovery (n .handle))) h
 unfolding any recovery
 fall-ticks n h u =
     apart-ticks n (seen aBusOff true (recovery (n .handle))) h refl (λ p a b c. rw (a, b, c) refl)
-    (rw (eqb-same (n .handle)) (sym u)) (rw (eqb-same (n .handle)) (sym u)) (λ z. absurd (true≢false z))
+    (rw (eqb-same (n .handle)) (sym u)) (rw (eqb-same (n .handle)) (sym u)) (λ z _. absurd (true≢false z))
+
+-- a stall that is taken
+reset-ticks : (n : Network) (h : OwnHistory) → Ticks n (seen aStall true (reset (n .handle))) h
+unfolding any reset
+reset-ticks n h =
+    apart-ticks n (seen aStall true (reset (n .handle))) h refl (λ p a b c. rw b refl) refl refl (λ _ z. absurd (true≢false z))
 
 -- ---- a tick
 module _ (n : Network) (g : InRange n) (f : Distinct (controllersOf n)) (h : OwnHistory) (r : Ran n h) where
@@ -108,9 +116,8 @@ module _ (n : Network) (g : InRange n) (f : Distinct (controllersOf n)) (h : Own
   follow : Follows n s h
   follow = follows n h r
 
-  -- full is told in just the full steps
   was-full : eqb 2 (told n h) ≡ isFullStep (s .step)
-  was-full = rw (← follow .told) (full-mode-number (s .told) ∙ kept .told)
+  was-full = told-in-full n g h r
 
   -- the notices of a shutdown, by the mode last told
   shutdown : (move : Move) → isGoDown move ≡ true → Shutdown n (seen aTick true (moveRecords n (s .step) (s .told) move)) h
@@ -199,8 +206,8 @@ module _ (n : Network) (g : InRange n) (f : Distinct (controllersOf n)) (h : Own
       prefails = move-prefails-not n (s .step) (s .told) m;
       stays-down = λ f. sinks n s (standing .suited) kept (sym (standing .rested) ∙ f);
       full-asks-nothing = λ f. full-rests n s (standing .suited) kept (sym now-full ∙ eq-eqb 2 (told n (e ∷ h)) (sym f));
-      starts = λ c f.
-          let x = begins n s (standing .suited) kept c f in
+      starts = λ c z.
+          let x = begins n s (standing .suited) kept c z in
           record {
             tick = refl;
             while-on = standing .on ∙ x .while-on;
@@ -208,10 +215,13 @@ module _ (n : Network) (g : InRange n) (f : Distinct (controllersOf n)) (h : Own
             prepared = λ a.
                 let first = x .first (sym (standing .begun c (x .own)) ∙ a) in
                 done-prepared n g h r (first .0) (first .1);
+            stopped = λ stall a.
+                let step = in-step-15 n g f h r stall c (x .own) a in
+                done-stopped n g f h r step (x .again step);
           };
       known = known-records;
       few = λ _. few-records;
-      none = λ t f. absurd (true≢false t);
+      none = λ t f _. absurd (true≢false t);
     }
 
 -- ---- the promise
@@ -225,5 +235,6 @@ ticks n g f e h r =
       recovers = λ u _ _ _. fall-ticks n h (stands ∙ u);
       restarts = λ u a _ _ _. quiet-ticks n aBusOff true h refl (stands ∙ u);
       not-taken = λ u a _ _ _. quiet-ticks n aBusOff false h refl (stands ∙ u);
+      resets = λ u _ _ _. reset-ticks n h;
       ticks = λ k t now. tick-ticks n g f h (r .1) now (ap (eqb 2) (sym t) ∙ full-mode-number (tickAfter n (stateOf n h) .told) ∙ k .told);
     }) e (r .0) (state-kept n g (e ∷ h) r) (follows n (e ∷ h) r .told) r

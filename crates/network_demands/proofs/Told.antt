@@ -1,5 +1,5 @@
 -- Exactly when a network is said to be full: where it stands on its way there is kept by every call.
-use Rattle.lists.proofs.Basics.{ℕ, suc, _+_, _≤_, _<_, arith, ne-eqb, ltb-true, leb-true, leb-false, lt-ltb, le-leb, lt-leb, _≡_, refl, sym, ap}
+use Rattle.lists.proofs.Basics.{ℕ, suc, _+_, _≤_, _<_, arith, ltb-true, leb-true, leb-false, lt-ltb, le-leb, lt-leb, _≡_, refl, sym, ap}
 use Rattle.lists.proofs.Basics.{subst, _∙_, List, [], _∷_, Bool, true, false, cond, _&&_, false≢true, true≢false, leb, ltb, eqb}
 use Rattle.lists.specs.Lists.{any, every}
 use Rattle.lists.proofs.Tests.{split}
@@ -13,17 +13,17 @@ use Rattle.settings.specs.Good.{Distinct, InRange}
 use Rattle.steps.specs.declared.Step.{Step}
 use Rattle.steps.specs.declared.Step.the-variants.{NoCommunication, TransceiverNormal, ControllersStopped, ControllersStarted, Checking, Full}
 use Rattle.steps.specs.declared.Step.the-variants.{Restarting, Waiting, Silent, ClearWake, DownStopped, TransceiverStandby, ControllersSleep}
-use Rattle.steps.specs.declared.Step.the-variants.{CheckWake, CheckWakeAgain}
+use Rattle.steps.specs.declared.Step.the-variants.{CheckWake, CheckWakeAgain, ResetStopped, ResetStarted}
 use Rattle.steps.specs.declared.Phase.{Phase}
 use Rattle.steps.specs.declared.Timer.{Timer}
 use Rattle.steps.specs.declared.Ask.{Ask}
 use Rattle.steps.specs.declared.Outfit.{Outfit}
 use Rattle.steps.specs.declared.Move.{Move}
 use Rattle.steps.specs.declared.Move.the-variants.{AskAgain, Count, EnterFull, EnterSilent, Wait, GoDown, EnterNoCommunication}
-use Rattle.steps.specs.Steps.{phaseOf, asksFor, timerOf, upPhase, isUp, asksToStart}
+use Rattle.steps.specs.Steps.{phaseOf, asksFor, timerOf, isUp, isFullStep, asksToStart}
 use Rattle.steps.specs.Decision.{risen, decision}
 use Rattle.steps.specs.After.{stepAfter}
-use Rattle.handing.specs.Handing.{requests, moveRecords, recovery}
+use Rattle.handing.specs.Handing.{requests, moveRecords, recovery, reset}
 use Rattle.network.specs.declared.Heard.{Heard}
 use Rattle.network.specs.declared.Report.{Report}
 use Rattle.network.specs.declared.State.{State}
@@ -32,22 +32,23 @@ use Rattle.network.specs.Rules.{isOkay, isRefusal, isLong, delayOf, outfitOf}
 use Rattle.network.specs.Moving.{countAfter, asksAfter, keepsAnswers, afterMove}
 use Rattle.network.specs.Answers.{takesReport}
 use Rattle.network.specs.BusOff.{madeAnew, afterHit}
-use Rattle.network.specs.Parts.{aTick, aBusOff, anAnswer}
+use Rattle.network.specs.Parts.{aTick, aBusOff, aStall, anAnswer}
 use Rattle.network_theorems.specs.Kept.{isFullMode, Kept}
 use Rattle.network_theorems.proofs.Moves.{ByMove, by-move}
 use Rattle.network_demands.specs.Words.{is, Seen, OwnHistory, since, tally, isAnswer, ticked, setback, told, wanted, wantedAtTick, up, owed}
-use Rattle.network_demands.specs.Words.{askedToStart, runs, allRun, firstRunning, Told, ToldNo, Answered}
+use Rattle.network_demands.specs.Words.{afterStall, askedToStart, runs, allRun, firstRunning, Told, ToldNo, Answered}
 use Rattle.network_demands.specs.Own.{finished, reaches, decides, tickAfter, tickHands, recovered, played, stateOf, Fits, Ran}
 use Rattle.network_demands.proofs.Views.{seen, by-part}
-use Rattle.network_demands.proofs.Tests.{finished-just, reaches-just}
+use Rattle.network_demands.proofs.Tests.{finished-just, finished-asked, reaches-just}
 use Rattle.network_demands.proofs.Handed.{isGoDown, move-shuts}
 use Rattle.network_demands.proofs.Given.{start-asks}
 use Rattle.network_demands.proofs.Slots.{every-member, every-same, saidOkay, no-answer-yet, all-okay}
 use Rattle.network_demands.proofs.Up.{up-means, says}
 use Rattle.network_demands.proofs.Follows.{state-kept, Follows, follows, follows-fall, told-follows, delay-follows}
-use Rattle.network_demands.proofs.Running.{since-by, owed-by, asked-first, first-stays, first-tick, none-run}
-use Rattle.network_demands.proofs.Way.{Way, away, starting, delayed, there, silenced, wayIn, wayOf, isThere, down-away, way-away}
-use Rattle.network_demands.proofs.Way.{first-down-away, full-there, to-start, Starts, Running, Away, Stands, StandsAt, stands-same}
+use Rattle.network_demands.proofs.Running.{since-by, owed-by, stall-by, asked-first, first-stays, first-tick, none-run}
+use Rattle.network_demands.proofs.Way.{Cause, comingUp, busOff, stall, Way, away, stopping, starting, delayed, there, silenced}
+use Rattle.network_demands.proofs.Way.{wayIn, causeIn, wayOf, isThere, down-away, down-comes-up, way-away, delayBy, isStallCause, Late}
+use Rattle.network_demands.proofs.Way.{soonest, first-down-away, full-there, to-start, Starts, Running, Away, Stands, StandsAt, stands-same}
 use Rattle.network_demands.proofs.Way.{heard-stands, anew, nothing-since}
 
 -- ---- ticks
@@ -60,7 +61,7 @@ unfolding delayOf
 delay-range n g count = split (λ (x : ℕ). (1 ≤ x) × (x < 65536)) (isLong (n .threshold) count) (λ _. g .long) (λ _. g .short)
 
 -- q is what followed the last setback before the tick
-module _ (n : Network) (g : InRange n) (told : Mode) (asked : Bool) (answers : List Heard) (count : ℕ) (q : OwnHistory) (d : ℕ) where
+module _ (n : Network) (g : InRange n) (told : Mode) (asked : Bool) (answers : List Heard) (count : ℕ) (q : OwnHistory) (d : ℕ) (x : Bool) where
   abbrev ticking : List Record → Seen
   ticking records = seen aTick true records
 
@@ -84,102 +85,152 @@ module _ (n : Network) (g : InRange n) (told : Mode) (asked : Bool) (answers : L
   unfolding tally
   sent-now records = sym (lt-ltb 0 (suc (tally ticked q)) (omega arith))
 
-  -- the next step on the way up or down
-  entered : (next : Step) (w : ℕ) → isUp next ≡ false → Away n q d
-      → Stands n (wayOf next) true blankAnswers count (ticking (requests (asksFor next) n) ∷ q) d w
+  -- a tick that asks all controllers to start, where none was asked before
+  starts-now : (cause : Cause) (ask : Ask) → asksToStart ask ≡ true → d ≡ delayBy n count cause → x ≡ isStallCause cause
+      → Late cause (tally ticked (ticking (requests ask n) ∷ q)) → Away n q d
+      → Starts n cause true blankAnswers count (ticking (requests ask n) ∷ q) d x
   unfolding runs
-  entered next w u i = split (λ (way : Way). Stands n way true blankAnswers count (ticking (requests (asksFor next) n) ∷ q) d w)
+  starts-now cause ask a delay why late i = record {
+    none = first-tick n (ticking (requests ask n)) q refl (i .none) ∙ rw (none-run n g q (i .unasked)) refl;
+    delay = delay;
+    why = why;
+    late = late;
+    sent = sent-now (requests ask n);
+    requested = all-asked ask a;
+    answered = λ c m. asked-first c q (i .unasked c m) ∙ sym (no-answer-yet n c);
+  }
+
+  -- the next step on the way up or down
+  entered : (next : Step) (w : ℕ) → isUp next ≡ false → Away n q d → x ≡ false
+      → Stands n (wayOf next) true blankAnswers count (ticking (requests (asksFor next) n) ∷ q) d w x
+  entered next w u i e = split (λ (way : Way). Stands n way true blankAnswers count (ticking (requests (asksFor next) n) ∷ q) d w x)
       (asksToStart (asksFor next))
-      (λ a. record {
-        none = first-tick n (ticking (requests (asksFor next) n)) q refl (i .none) ∙ rw (none-run n g q (i .unasked)) refl;
-        delay = rw u (i .delay);
-        sent = sent-now (requests (asksFor next) n);
-        requested = all-asked (asksFor next) a;
-        answered = λ c m. asked-first c q (i .unasked c m) ∙ sym (no-answer-yet n c);
-      })
-      (λ a. subst (λ (way : Way). Stands n way true blankAnswers count (ticking (requests (asksFor next) n) ∷ q) d w)
-      (sym (down-away (phaseOf next) (timerOf next) u)) (still-away (requests (asksFor next) n) (λ c. start-asks n c (asksFor next) ∙ rw a refl) i))
+      (λ a. subst (λ (cause : Cause). Starts n cause true blankAnswers count (ticking (requests (asksFor next) n) ∷ q) d x)
+      (sym (down-comes-up (phaseOf next) u)) (starts-now comingUp (asksFor next) a (i .delay) e tt i))
+      (λ a. subst (λ (way : Way). Stands n way true blankAnswers count (ticking (requests (asksFor next) n) ∷ q) d w x)
+      (sym (down-away (phaseOf next) (timerOf next) u))
+      (still-away (requests (asksFor next) n) (λ c. start-asks n c (asksFor next) ∙ rw a refl) i, e))
+
+  -- what is late stays so
+  still-late : (cause : Cause) (ticks : ℕ) → Late cause ticks → Late cause (suc ticks)
+  still-late comingUp ticks l = tt
+  still-late busOff ticks l = tt
+  still-late stall ticks l = omega (arith, l)
 
   -- starting, all are asked again where not all run
-  asked-again : (again : Bool) → allRun n q ≡ false → Starts n again asked answers count q d
-      → Starts n again true answers count (ticking (requests (Ask.Controllers ControllerMode.Started) n) ∷ q) d
-  unfolding runs
-  asked-again again f i = record {
+  asked-again : (cause : Cause) → allRun n q ≡ false → Starts n cause asked answers count q d x
+      → Starts n cause true answers count (ticking (requests (Ask.Controllers ControllerMode.Started) n) ∷ q) d x
+  unfolding runs tally
+  asked-again cause f i = record {
     none = first-tick n (ticking (requests (Ask.Controllers ControllerMode.Started) n)) q refl (i .none) ∙ rw f refl;
     delay = i .delay;
+    why = i .why;
+    late = still-late cause (tally ticked q) (i .late);
     sent = sent-now (requests (Ask.Controllers ControllerMode.Started) n);
     requested = all-asked (Ask.Controllers ControllerMode.Started) refl;
     answered = i .answered;
   }
 
   -- starting, where all run this tick is the first before which they do, and it is not the first of all
-  first-now : (again : Bool) (records : List Record) → allRun n q ≡ true → Starts n again asked answers count q d
-      → Running n (ticking records ∷ q) × (firstRunning n (ticking records ∷ q) ≡ suc (tally ticked q))
+  first-now : (cause : Cause) (records : List Record) → allRun n q ≡ true → Starts n cause asked answers count q d x
+      → Running n (ticking records ∷ q) x × (firstRunning n (ticking records ∷ q) ≡ suc (tally ticked q))
   unfolding runs
-  first-now again records f i =
+  first-now cause records f i =
       let now : firstRunning n (ticking records ∷ q) ≡ suc (tally ticked q) = first-tick n (ticking records) q refl (i .none) ∙ rw f refl in
-      (record { all = λ c m. every-member (λ (c : ℕ). runs c q) c (controllersOf n) f m; later = rw now (omega (arith, by-test asked refl)) }, now)
+      let some = by-test asked refl in (
+        record {
+          all = λ c m. every-member (λ (c : ℕ). runs c q) c (controllersOf n) f m;
+          soon = rw (now, i .why) (by-cause cause (tally ticked q) some (i .late));
+          later = rw now (omega (arith, some));
+        },
+        now,
+      )
     where
       by-test : (b : Bool) → asked ≡ b → 0 < tally ticked q
       by-test true e = ltb-true 0 (tally ticked q) (sym (i .sent) ∙ e)
       by-test false e = absurd (true≢false (sym f ∙ none-run n g q (λ c m. i .requested c m ∙ e)))
 
-  -- once all run a tick changes nothing of that
-  still-running : (records : List Record) → Running n q → Running n (ticking records ∷ q)
-  unfolding runs
-  still-running records i = record { all = i .all; later = rw (first-stays n (ticking records) q (omega (arith, i .later))) (i .later) }
+      by-cause : (cause : Cause) (ticks : ℕ) → 0 < ticks → Late cause ticks → soonest (isStallCause cause) ≤ suc ticks
+      by-cause comingUp ticks some l = omega (arith, some)
+      by-cause busOff ticks some l = omega (arith, some)
+      by-cause stall ticks some l = omega (arith, l)
 
-  first-still : (records : List Record) → Running n q → firstRunning n (ticking records ∷ q) ≡ firstRunning n q
+  -- once all run a tick changes nothing of that
+  still-running : (records : List Record) → Running n q x → Running n (ticking records ∷ q) x
+  unfolding runs
+  still-running records i =
+      let same = first-stays n (ticking records) q (omega (arith, i .later)) in
+      record { all = i .all; soon = rw same (i .soon); later = rw same (i .later) }
+
+  first-still : (records : List Record) → Running n q x → firstRunning n (ticking records ∷ q) ≡ firstRunning n q
   first-still records i = first-stays n (ticking records) q (omega (arith, i .later))
 
   -- what a move makes of where the network stands
   abbrev After : Step → Mode → Move → Type 0
   After step wanted m =
       Stands n (wayOf (stepAfter m step (n .partial))) (asksAfter m asked) (cond (keepsAnswers m) answers blankAnswers) (countAfter m count)
-      (cond (isGoDown m) [] (ticking (moveRecords n step told m) ∷ q)) (cond (isGoDown m) 0 d) (modeNumber wanted)
+      (cond (isGoDown m) [] (ticking (moveRecords n step told m) ∷ q)) (cond (isGoDown m) 0 d) (modeNumber wanted) (cond (isGoDown m) false x)
 
   gone : (step : Step) → After step Mode.No GoDown
-  gone step = subst (λ (way : Way). Stands n way true blankAnswers count [] 0 0) (sym (first-down-away (n .partial))) (nothing-since n)
+  gone step =
+      subst (λ (way : Way). Stands n way true blankAnswers count [] 0 0 false) (sym (first-down-away (n .partial))) (nothing-since n, refl)
 
   -- from a step that is not up and does not ask the controllers to start
   abbrev AfterAway : Step → Mode → Move → Type 0
-  AfterAway step wanted m = isUp step ≡ false → asksToStart (asksFor step) ≡ false → Away n q d → After step wanted m
+  AfterAway step wanted m = isUp step ≡ false → asksToStart (asksFor step) ≡ false → Away n q d × (x ≡ false) → After step wanted m
 
   after-away : (done : Bool) → ByMove done AfterAway
   unfolding moveRecords any
   after-away done = record {
-    stays = λ step wanted u a i. rw (way-away step u a) (still-away [] (λ c. refl) i);
+    stays = λ step wanted u a i. rw (way-away step u a) (still-away [] (λ c. refl) (i .0), i .1);
     asks-again = λ step wanted _ u a i.
-        rw (way-away step u a) (still-away (requests (asksFor step) n) (λ c. start-asks n c (asksFor step) ∙ rw a refl) i);
+        rw (way-away step u a) (still-away (requests (asksFor step) n) (λ c. start-asks n c (asksFor step) ∙ rw a refl) (i .0), i .1);
     counts = λ step next wanted p p′ f u a i. absurd (false≢true (sym u ∙ p .up));
     passes = λ step wanted p f u a i. absurd (false≢true (sym u ∙ p .up));
     fills = λ step wanted p u a i. absurd (false≢true (sym u ∙ p .up));
     starts = λ step wanted _ b u a i. absurd (false≢true (sym a ∙ b));
-    silences = λ step wanted p u a i. absurd (false≢true (sym u ∙ p .up));
+    silences = λ step wanted p u a i. absurd (false≢true (sym u ∙ p));
     waits = λ step wanted _ b f u a i. absurd (false≢true (sym a ∙ b));
     goes-down = λ step o u a i. gone step;
-    ends = λ step wanted _ u a i. still-away (moveRecords n step told EnterNoCommunication) (λ c. refl) i;
-    enters = λ step next wanted _ same _ u a i. entered next (modeNumber wanted) (same ∙ u) i;
+    ends = λ step wanted _ u a i. (still-away (moveRecords n step told EnterNoCommunication) (λ c. refl) (i .0), i .1);
+    enters = λ step next wanted _ same _ u a i. entered next (modeNumber wanted) (same ∙ u) (i .0) (i .1);
   }
 
-  -- in step 3, in step 6 and in step 7, where the network does not go down
-  after-starting : (done : Bool) → done ≡ allRun n q → Starts n false asked answers count q d
+  -- in step 3, in steps 15 and 16, in step 6 and in step 7, where the network does not go down
+  after-starting : (done : Bool) → done ≡ allRun n q → Starts n comingUp asked answers count q d x
       → After ControllersStarted Mode.Full (cond done EnterFull AskAgain)
   unfolding moveRecords tally
   after-starting done p i = split (After ControllersStarted Mode.Full) done
-      (λ e. let x = first-now false (moveRecords n ControllersStarted told EnterFull) (sym p ∙ e) i in (x .0, omega (arith, x .1, i .delay), refl))
-      (λ e. asked-again false (sym p ∙ e) i)
+      (λ e. let x = first-now comingUp (moveRecords n ControllersStarted told EnterFull) (sym p ∙ e) i in
+      (x .0, omega (arith, x .1, i .delay), refl))
+      (λ e. asked-again comingUp (sym p ∙ e) i)
 
-  after-restarting : (wanted : Mode) (done : Bool) → done ≡ allRun n q → Starts n true asked answers count q d
+  after-stopping : (wanted : Mode) (done : Bool) → (done ≡ true → asked ≡ true)
+      → Away n q d × (x ≡ true) × (asked ≡ true → 0 < tally ticked q) → After ResetStopped wanted (cond done (Move.Enter ResetStarted) AskAgain)
+  unfolding moveRecords tally
+  after-stopping wanted done p i = split (After ResetStopped wanted) done
+      (λ e. starts-now stall (asksFor ResetStarted) refl (i .0 .delay) (i .1) (omega (arith, i .2 (p e))) (i .0))
+      (λ e. (still-away (requests (asksFor ResetStopped) n) (λ c. start-asks n c (asksFor ResetStopped)) (i .0), i .1, λ _. omega arith))
+
+  after-resetting : (wanted : Mode) (m : Move) (done : Bool) → done ≡ allRun n q → Starts n stall asked answers count q d x
+      → (Running n (ticking (moveRecords n ResetStarted told m) ∷ q) x
+      → firstRunning n (ticking (moveRecords n ResetStarted told m) ∷ q) + d ≤ tally ticked (ticking (moveRecords n ResetStarted told m) ∷ q)
+      → After ResetStarted wanted m) → After ResetStarted wanted (cond done m AskAgain)
+  unfolding moveRecords tally
+  after-resetting wanted m done p i f = split (After ResetStarted wanted) done
+      (λ e. let x = first-now stall (moveRecords n ResetStarted told m) (sym p ∙ e) i in f (x .0) (omega (arith, x .1, i .delay)))
+      (λ e. asked-again stall (sym p ∙ e) i)
+
+  after-restarting : (wanted : Mode) (done : Bool) → done ≡ allRun n q → Starts n busOff asked answers count q d x
       → After Restarting wanted (cond done Wait AskAgain)
   unfolding moveRecords tally
   after-restarting wanted done p i = split (After Restarting wanted) done
-      (λ e. let x = first-now true (moveRecords n Restarting told Wait) (sym p ∙ e) i in
+      (λ e. let x = first-now busOff (moveRecords n Restarting told Wait) (sym p ∙ e) i in
       (x .0, i .delay, omega (arith, x .1), omega (arith, i .delay, delay-range n g count .0)))
-      (λ e. asked-again true (sym p ∙ e) i)
+      (λ e. asked-again busOff (sym p ∙ e) i)
 
   after-waiting : (t w : ℕ) (wanted : Mode) (m : Move) (reached : Bool) → reached ≡ leb (delayOf n count) (t + 1)
-      → Stands n (delayed t) asked answers count q d w → (firstRunning n q + d ≤ suc (tally ticked q) → After (Waiting t) wanted m)
+      → Stands n (delayed t) asked answers count q d w x → (firstRunning n q + d ≤ suc (tally ticked q) → After (Waiting t) wanted m)
       → After (Waiting t) wanted (cond reached m (Count (Waiting (risen t))))
   unfolding moveRecords tally
   after-waiting t w wanted m reached r i f = split (After (Waiting t) wanted) reached
@@ -190,49 +241,56 @@ module _ (n : Network) (g : InRange n) (told : Mode) (asked : Bool) (answers : L
       (still-running [] (i .0), i .1, omega (arith, i .2, first-still [] (i .0)), omega (arith, i .1)))
 
   -- where the time has passed, full or silent is entered, or all stays
-  on-there : (records : List Record) → Running n q → firstRunning n q + d ≤ suc (tally ticked q)
-      → Running n (ticking records ∷ q) × (firstRunning n (ticking records ∷ q) + d ≤ tally ticked (ticking records ∷ q))
+  on-there : (records : List Record) → Running n q x → firstRunning n q + d ≤ suc (tally ticked q)
+      → Running n (ticking records ∷ q) x × (firstRunning n (ticking records ∷ q) + d ≤ tally ticked (ticking records ∷ q))
   unfolding tally
   on-there records i l = (still-running records i, rw (first-still records i) l)
 
   module _ (w : ℕ) (done refused reached : Bool) (outfit : Outfit) where
     -- each step by what it does; what is done and reached is as the record has it
     after : (step : Step) (wanted : Mode) → (wanted ≡ Mode.Silent → isUp step ≡ true) → (asksToStart (asksFor step) ≡ true → done ≡ allRun n q)
-        → ((t : ℕ) → step ≡ Waiting t → reached ≡ leb (delayOf n count) (t + 1)) → Stands n (wayOf step) asked answers count q d w
+        → ((t : ℕ) → step ≡ Waiting t → reached ≡ leb (delayOf n count) (t + 1)) → (done ≡ true → asked ≡ true)
+        → Stands n (wayOf step) asked answers count q d w x
         → After step wanted (decision step wanted done refused reached outfit)
     unfolding decision
-    after NoCommunication wanted s p r i = by-move AfterAway done (after-away done) NoCommunication wanted refused reached outfit refl refl i
-    after TransceiverNormal wanted s p r i = by-move AfterAway done (after-away done) TransceiverNormal wanted refused reached outfit refl refl i
-    after ControllersStopped wanted s p r i = by-move AfterAway done (after-away done) ControllersStopped wanted refused reached outfit refl refl i
-    after ControllersStarted Mode.No s p r i = gone ControllersStarted
-    after ControllersStarted Mode.Silent s p r i = absurd (false≢true (s refl))
-    after ControllersStarted Mode.Full s p r i = after-starting done (p refl) i
-    after (Checking t) Mode.No s p r i = gone (Checking t)
-    after (Checking t) Mode.Silent s p r i = let x = on-there _ (i .0) (omega (arith, i .1)) in (x .0, x .1, refl)
-    after (Checking t) Mode.Full s p r i =
+    after NoCommunication wanted s p r b i = by-move AfterAway done (after-away done) NoCommunication wanted refused reached outfit refl refl i
+    after TransceiverNormal wanted s p r b i = by-move AfterAway done (after-away done) TransceiverNormal wanted refused reached outfit refl refl i
+    after ControllersStopped wanted s p r b i = by-move AfterAway done (after-away done) ControllersStopped wanted refused reached outfit refl refl i
+    after ControllersStarted Mode.No s p r b i = gone ControllersStarted
+    after ControllersStarted Mode.Silent s p r b i = absurd (false≢true (s refl))
+    after ControllersStarted Mode.Full s p r b i = after-starting done (p refl) i
+    after (Checking t) Mode.No s p r b i = gone (Checking t)
+    after (Checking t) Mode.Silent s p r b i = let x = on-there _ (i .0) (omega (arith, i .1)) in (x .0, x .1, refl)
+    after (Checking t) Mode.Full s p r b i =
         split (After (Checking t) Mode.Full) reached
         (λ _. let x = on-there _ (i .0) (omega (arith, i .1)) in (x .0, x .1, refl))
         (λ _. let x = on-there _ (i .0) (omega (arith, i .1)) in (x .0, x .1, refl))
-    after Full Mode.No s p r i = gone Full
-    after Full Mode.Silent s p r i = let x = on-there _ (i .0) (omega (arith, i .1)) in (x .0, x .1, refl)
-    after Full Mode.Full s p r i = let x = on-there _ (i .0) (omega (arith, i .1)) in (x .0, x .1, refl)
-    after Restarting Mode.No s p r i = gone Restarting
-    after Restarting Mode.Silent s p r i = after-restarting Mode.Silent done (p refl) i
-    after Restarting Mode.Full s p r i = after-restarting Mode.Full done (p refl) i
-    after (Waiting t) Mode.No s p r i = gone (Waiting t)
-    after (Waiting t) Mode.Silent s p r i =
+    after Full Mode.No s p r b i = gone Full
+    after Full Mode.Silent s p r b i = let x = on-there _ (i .0) (omega (arith, i .1)) in (x .0, x .1, refl)
+    after Full Mode.Full s p r b i = let x = on-there _ (i .0) (omega (arith, i .1)) in (x .0, x .1, refl)
+    after Restarting Mode.No s p r b i = gone Restarting
+    after Restarting Mode.Silent s p r b i = after-restarting Mode.Silent done (p refl) i
+    after Restarting Mode.Full s p r b i = after-restarting Mode.Full done (p refl) i
+    after (Waiting t) Mode.No s p r b i = gone (Waiting t)
+    after (Waiting t) Mode.Silent s p r b i =
         after-waiting t w Mode.Silent EnterSilent reached (r t refl) i (λ l. let x = on-there _ (i .0) l in (x .0, x .1, refl))
-    after (Waiting t) Mode.Full s p r i =
+    after (Waiting t) Mode.Full s p r b i =
         after-waiting t w Mode.Full EnterFull reached (r t refl) i (λ l. let x = on-there _ (i .0) l in (x .0, x .1, refl))
-    after Silent Mode.No s p r i = gone Silent
-    after Silent Mode.Silent s p r i = let x = on-there _ (i .0) (omega (arith, i .1)) in (x .0, x .1, refl)
-    after Silent Mode.Full s p r i = let x = on-there _ (i .0) (omega (arith, i .1)) in (x .0, x .1, refl)
-    after ClearWake wanted s p r i = by-move AfterAway done (after-away done) ClearWake wanted refused reached outfit refl refl i
-    after DownStopped wanted s p r i = by-move AfterAway done (after-away done) DownStopped wanted refused reached outfit refl refl i
-    after TransceiverStandby wanted s p r i = by-move AfterAway done (after-away done) TransceiverStandby wanted refused reached outfit refl refl i
-    after ControllersSleep wanted s p r i = by-move AfterAway done (after-away done) ControllersSleep wanted refused reached outfit refl refl i
-    after CheckWake wanted s p r i = by-move AfterAway done (after-away done) CheckWake wanted refused reached outfit refl refl i
-    after CheckWakeAgain wanted s p r i = by-move AfterAway done (after-away done) CheckWakeAgain wanted refused reached outfit refl refl i
+    after Silent Mode.No s p r b i = gone Silent
+    after Silent Mode.Silent s p r b i = let x = on-there _ (i .0) (omega (arith, i .1)) in (x .0, x .1, refl)
+    after Silent Mode.Full s p r b i = let x = on-there _ (i .0) (omega (arith, i .1)) in (x .0, x .1, refl)
+    after ClearWake wanted s p r b i = by-move AfterAway done (after-away done) ClearWake wanted refused reached outfit refl refl i
+    after DownStopped wanted s p r b i = by-move AfterAway done (after-away done) DownStopped wanted refused reached outfit refl refl i
+    after TransceiverStandby wanted s p r b i = by-move AfterAway done (after-away done) TransceiverStandby wanted refused reached outfit refl refl i
+    after ControllersSleep wanted s p r b i = by-move AfterAway done (after-away done) ControllersSleep wanted refused reached outfit refl refl i
+    after CheckWake wanted s p r b i = by-move AfterAway done (after-away done) CheckWake wanted refused reached outfit refl refl i
+    after CheckWakeAgain wanted s p r b i = by-move AfterAway done (after-away done) CheckWakeAgain wanted refused reached outfit refl refl i
+    after ResetStopped Mode.No s p r b i = gone ResetStopped
+    after ResetStopped Mode.Silent s p r b i = after-stopping Mode.Silent done b i
+    after ResetStopped Mode.Full s p r b i = after-stopping Mode.Full done b i
+    after ResetStarted Mode.No s p r b i = gone ResetStarted
+    after ResetStarted Mode.Silent s p r b i = after-resetting Mode.Silent EnterSilent done (p refl) i (λ y l. (y, l, refl))
+    after ResetStarted Mode.Full s p r b i = after-resetting Mode.Full EnterFull done (p refl) i (λ y l. (y, l, refl))
 
 -- ---- all that is seen
 module _ (n : Network) (g : InRange n) (f : Distinct (controllersOf n)) (h : OwnHistory) (s : State) (k : Kept n s) (u : up n h ≡ isUp (s .step))
@@ -242,9 +300,9 @@ module _ (n : Network) (g : InRange n) (f : Distinct (controllersOf n)) (h : Own
 
   -- a step that asks the controllers to start is done exactly if all run
   done-runs : asksToStart (asksFor (s .step)) ≡ true → finished n s ≡ allRun n (since (setback n) h)
-  done-runs a = finished-just n s (to-start (asksFor (s .step)) a) ∙ by-test (s .asked) refl
+  done-runs a = finished-just n s ControllerMode.Started (to-start (asksFor (s .step)) a) ∙ by-test (s .asked) refl
     where
-      j : Starts n (isUp (s .step)) (s .asked) (s .answers) (s .count) (since (setback n) h) (owed n h)
+      j : Starts n (causeIn (phaseOf (s .step))) (s .asked) (s .answers) (s .count) (since (setback n) h) (owed n h) (afterStall n h)
       j = rw a at i
 
       by-test : (b : Bool) → s .asked ≡ b → cond b (every isOkay (heardOf n s)) false ≡ allRun n (since (setback n) h)
@@ -258,78 +316,96 @@ module _ (n : Network) (g : InRange n) (f : Distinct (controllersOf n)) (h : Own
       let m = decides n s in
       let e : Seen = seen aTick true (tickHands n s) in
       let shuts : setback n e ≡ isGoDown m = move-shuts n (s .step) _ m in
-      rw (since-by n e h (isGoDown m) shuts, owed-by n e h (isGoDown m) shuts, ← v .wanted)
-      (after n g _ (s .asked) (s .answers) (s .count) (since (setback n) h) (owed n h) (wantedAtTick h) (finished n s)
+      rw (since-by n e h (isGoDown m) shuts, owed-by n e h (isGoDown m) shuts, stall-by n e h (isGoDown m) shuts, ← v .wanted)
+      (after n g _ (s .asked) (s .answers) (s .count) (since (setback n) h) (owed n h) (afterStall n h) (wantedAtTick h) (finished n s)
       (any isRefusal (heardOf n s)) (reaches n s) (outfitOf (n .transceiver) (n .partial)) (s .step) (s .wanted)
-      (k .wanted) done-runs (reaches-just n s) i)
+      (k .wanted) done-runs (reaches-just n s) (finished-asked n s) i)
 
   stands-call : (e : Seen) → Fits n s e → StillStands e (played n s (e .sight) .state)
   unfolding any runs wantedAtTick afterHit madeAnew
   stands-call = by-part n s StillStands (record {
     plain = λ sight accepted wanted reported p.
         let e : Seen = seen sight accepted [] in
-        let calm : setback n e ≡ false = rw (p .bus-off) refl in
-        rw (since-by n e h false calm, owed-by n e h false calm, p .tick)
+        let calm : setback n e ≡ false = rw (p .bus-off, p .stall) refl in
+        rw (since-by n e h false calm, owed-by n e h false calm, stall-by n e h false calm, p .tick)
         (stands-same n e (since (setback n) h) (p .tick) (λ c. refl) (λ c m. rw (p .answer c 1 1 m, p .answer c 1 0 m) refl)
-        (wayOf (s .step)) (s .asked) (s .answers) (s .count) (owed n h) (wantedAtTick h) i);
+        (wayOf (s .step)) (s .asked) (s .answers) (s .count) (owed n h) (wantedAtTick h) (afterStall n h) i);
     hears = λ c mode ok m l t.
         let e : Seen = seen (anAnswer c mode ok) true [] in
-        rw (since-by n e h false refl, owed-by n e h false refl)
-        (heard-stands n g s k c mode ok m l (since (setback n) h) t (owed n h) (wantedAtTick h) i);
+        rw (since-by n e h false refl, owed-by n e h false refl, stall-by n e h false refl)
+        (heard-stands n g s k c mode ok m l (since (setback n) h) t (owed n h) (wantedAtTick h) (afterStall n h) i);
     recovers = λ b.
         let e : Seen = seen aBusOff true (recovery (n .handle)) in
-        rw (since-by n e h true refl, owed-by n e h true refl, u, b)
-        (anew n true _ _ (sym (delay-follows n g (e ∷ h) (recovered s) (follows-fall n h s u v b))));
+        rw (since-by n e h true refl, owed-by n e h true refl, stall-by n e h true refl, u, b)
+        (anew n busOff _ _ refl (sym (delay-follows n g (e ∷ h) (recovered s) (follows-fall n h s u v b))));
     restarts = λ b a.
         let e : Seen = seen aBusOff true [] in
-        rw (since-by n e h true refl, owed-by n e h true refl, u, b, a) (anew n false _ 0 refl);
+        rw (since-by n e h true refl, owed-by n e h true refl, stall-by n e h true refl, u, b, a, down-comes-up (phaseOf (s .step)) b)
+        (anew n comingUp _ 0 refl refl);
     not-taken = λ b a.
         let e : Seen = seen aBusOff false [] in
-        rw (way-away (s .step) b a, since-by n e h true refl, owed-by n e h true refl, u, b) (nothing-since n);
+        rw (way-away (s .step) b a, since-by n e h true refl, owed-by n e h true refl, stall-by n e h true refl, u, b) (nothing-since n, refl);
+    resets = λ b.
+        let e : Seen = seen aStall true (reset (n .handle)) in
+        rw (since-by n e h true refl, owed-by n e h true refl, stall-by n e h true refl) (nothing-since n, refl, λ a. absurd (false≢true a));
     ticks = stands-tick;
   })
 
 pub stands-at : (n : Network) → InRange n → Distinct (controllersOf n) → (h : OwnHistory) → Ran n h → StandsAt n (stateOf n h) h
-unfolding stateOf Ran started since owed
-stands-at n g f [] r = rw (first-down-away (n .partial)) (nothing-since n)
+unfolding stateOf Ran started since owed afterStall
+stands-at n g f [] r = rw (first-down-away (n .partial)) (nothing-since n, refl)
 stands-at n g f (e ∷ h) r =
     stands-call n g f h (stateOf n h) (state-kept n g h (r .1)) (up-means n h (r .1)) (follows n h (r .1)) (stands-at n g f h (r .1)) e (r .0)
 
 -- ---- exactly when full is told
 -- there, full is due; elsewhere not
-due-there : (n : Network) (way : Way) (asked : Bool) (answers : List Heard) (count d w : ℕ) (s : OwnHistory) → Stands n way asked answers count s d w
-    → isThere way ≡ (ltb 0 (firstRunning n s) && (leb (firstRunning n s + d) (tally ticked s) && eqb 2 w))
-due-there n away asked answers count d w s i = rw (i .none) refl
-due-there n (starting again) asked answers count d w s i = rw (i .none) refl
-due-there n (delayed t) asked answers count d w s i =
+due-there : (n : Network) (way : Way) (asked : Bool) (answers : List Heard) (count d w : ℕ) (s : OwnHistory) (x : Bool)
+    → Stands n way asked answers count s d w x → isThere way ≡ (ltb 0 (firstRunning n s) && (leb (firstRunning n s + d) (tally ticked s) && eqb 2 w))
+due-there n away asked answers count d w s x i = rw (i .0 .none) refl
+due-there n stopping asked answers count d w s x i = rw (i .0 .none) refl
+due-there n (starting cause) asked answers count d w s x i = rw (i .none) refl
+due-there n (delayed t) asked answers count d w s x i =
     rw (lt-ltb 0 (firstRunning n s) (omega (arith, i .0 .later)), lt-leb (firstRunning n s + d) (tally ticked s) (omega (arith, i .2))) refl
-due-there n there asked answers count d w s i =
+due-there n there asked answers count d w s x i =
     rw (lt-ltb 0 (firstRunning n s) (omega (arith, i .0 .later)), le-leb (firstRunning n s + d) (tally ticked s) (i .1), i .2) refl
-due-there n silenced asked answers count d w s i =
+due-there n silenced asked answers count d w s x i =
     rw (lt-ltb 0 (firstRunning n s) (omega (arith, i .0 .later)), le-leb (firstRunning n s + d) (tally ticked s) (i .1), i .2) refl
 
--- a tick before which all run is never the first since the setback
-later-than-first : (n : Network) (way : Way) (asked : Bool) (answers : List Heard) (count d w : ℕ) (s : OwnHistory)
-    → Stands n way asked answers count s d w → eqb 1 (firstRunning n s) ≡ false
-later-than-first n away asked answers count d w s i = rw (i .none) refl
-later-than-first n (starting again) asked answers count d w s i = rw (i .none) refl
-later-than-first n (delayed t) asked answers count d w s i = ne-eqb 1 (firstRunning n s) (λ e. omega (arith, i .0 .later))
-later-than-first n there asked answers count d w s i = ne-eqb 1 (firstRunning n s) (λ e. omega (arith, i .0 .later))
-later-than-first n silenced asked answers count d w s i = ne-eqb 1 (firstRunning n s) (λ e. omega (arith, i .0 .later))
+sooner-not : (n : Network) (s : OwnHistory) (x : Bool) → firstRunning n s ≡ 0 → ltb 0 (firstRunning n s) ≡ leb (soonest x) (firstRunning n s)
+sooner-not n s true z = rw z refl
+sooner-not n s false z = rw z refl
+
+soon-enough : (n : Network) (s : OwnHistory) (x : Bool) → Running n s x → ltb 0 (firstRunning n s) ≡ leb (soonest x) (firstRunning n s)
+soon-enough n s x i = lt-ltb 0 (firstRunning n s) (omega (arith, i .later)) ∙ sym (le-leb (soonest x) (firstRunning n s) (i .soon))
+
+-- a tick before which all run is never the first since the setback, and after a stall never the second
+not-sooner : (n : Network) (way : Way) (asked : Bool) (answers : List Heard) (count d w : ℕ) (s : OwnHistory) (x : Bool)
+    → Stands n way asked answers count s d w x → ltb 0 (firstRunning n s) ≡ leb (soonest x) (firstRunning n s)
+not-sooner n away asked answers count d w s x i = sooner-not n s x (i .0 .none)
+not-sooner n stopping asked answers count d w s x i = sooner-not n s x (i .0 .none)
+not-sooner n (starting cause) asked answers count d w s x i = sooner-not n s x (i .none)
+not-sooner n (delayed t) asked answers count d w s x i = soon-enough n s x (i .0)
+not-sooner n there asked answers count d w s x i = soon-enough n s x (i .0)
+not-sooner n silenced asked answers count d w s x i = soon-enough n s x (i .0)
 
 -- there, all run
-there-running : (n : Network) (way : Way) (asked : Bool) (answers : List Heard) (count d w : ℕ) (s : OwnHistory)
-    → Stands n way asked answers count s d w → isThere way ≡ true → (c : ℕ) → member c (controllersOf n) ≡ true → runs c s ≡ true
-there-running n away asked answers count d w s i e = absurd (false≢true e)
-there-running n (starting again) asked answers count d w s i e = absurd (false≢true e)
-there-running n (delayed t) asked answers count d w s i e = absurd (false≢true e)
-there-running n there asked answers count d w s i e = i .0 .all
-there-running n silenced asked answers count d w s i e = absurd (false≢true e)
+there-running : (n : Network) (way : Way) (asked : Bool) (answers : List Heard) (count d w : ℕ) (s : OwnHistory) (x : Bool)
+    → Stands n way asked answers count s d w x → isThere way ≡ true → (c : ℕ) → member c (controllersOf n) ≡ true → runs c s ≡ true
+there-running n away asked answers count d w s x i e = absurd (false≢true e)
+there-running n stopping asked answers count d w s x i e = absurd (false≢true e)
+there-running n (starting cause) asked answers count d w s x i e = absurd (false≢true e)
+there-running n (delayed t) asked answers count d w s x i e = absurd (false≢true e)
+there-running n there asked answers count d w s x i e = i .0 .all
+there-running n silenced asked answers count d w s x i e = absurd (false≢true e)
 
 pub full-mode-number : (mode : Mode) → eqb 2 (modeNumber mode) ≡ isFullMode mode
 full-mode-number Mode.No = refl
 full-mode-number Mode.Silent = refl
 full-mode-number Mode.Full = refl
+
+-- full is told in just the full steps
+pub told-in-full : (n : Network) → InRange n → (h : OwnHistory) → Ran n h → eqb 2 (told n h) ≡ isFullStep (stateOf n h .step)
+told-in-full n g h r = ap (eqb 2) (sym (told-follows n h r)) ∙ full-mode-number (stateOf n h .told) ∙ state-kept n g h r .told
 
 module _ (n : Network) (g : InRange n) (f : Distinct (controllersOf n)) (h : OwnHistory) (r : Ran n h) where
   abbrev w : State
@@ -340,16 +416,16 @@ module _ (n : Network) (g : InRange n) (f : Distinct (controllersOf n)) (h : Own
 
   -- full is told exactly where the network is there
   told-there : eqb 2 (told n h) ≡ isThere (wayOf (w .step))
-  told-there =
-      ap (eqb 2) (sym (told-follows n h r)) ∙ full-mode-number (w .told) ∙ state-kept n g h r .told ∙ full-there (w .step)
+  told-there = told-in-full n g h r ∙ full-there (w .step)
 
   pub told-exactly : Told n h
   told-exactly =
-      told-there ∙ due-there n (wayOf (w .step)) (w .asked) (w .answers) (w .count) (owed n h) (wantedAtTick h) q (stands-at n g f h r)
+      told-there ∙ due-there n (wayOf (w .step)) (w .asked) (w .answers) (w .count) (owed n h) (wantedAtTick h) q (afterStall n h)
+      (stands-at n g f h r)
 
-  pub never-at-first : eqb 1 (firstRunning n q) ≡ false
-  never-at-first =
-      later-than-first n (wayOf (w .step)) (w .asked) (w .answers) (w .count) (owed n h) (wantedAtTick h) q (stands-at n g f h r)
+  pub never-sooner : ltb 0 (firstRunning n q) ≡ leb (soonest (afterStall n h)) (firstRunning n q)
+  never-sooner =
+      not-sooner n (wayOf (w .step)) (w .asked) (w .answers) (w .count) (owed n h) (wantedAtTick h) q (afterStall n h) (stands-at n g f h r)
 
   pub told-no : ToldNo n h
   told-no = ap (eqb 0) (sym (told-follows n h r)) ∙ says n h r .silence
@@ -357,31 +433,32 @@ module _ (n : Network) (g : InRange n) (f : Distinct (controllersOf n)) (h : Own
   -- demand 3, first sentence
   pub first-sentence : Answered n h
   first-sentence e =
-      there-running n (wayOf (w .step)) (w .asked) (w .answers) (w .count) (owed n h) (wantedAtTick h) q (stands-at n g f h r)
+      there-running n (wayOf (w .step)) (w .asked) (w .answers) (w .count) (owed n h) (wantedAtTick h) q (afterStall n h) (stands-at n g f h r)
       (sym told-there ∙ ap (eqb 2) e)
 
-  -- ---- while up, as long as not all have run
-  module _ (u : up n h ≡ true) (z : firstRunning n q ≡ 0) where
+  -- ---- where a delay is owed, as long as not all have run
+  module _ (o : 0 < owed n h) (z : firstRunning n q ≡ 0) where
     -- the controllers are asked to start
     starting-again : asksToStart (asksFor (w .step)) ≡ true
     starting-again = by-test (asksToStart (asksFor (w .step))) (stands-at n g f h r)
       where
-        later : (phase : Phase) (timer : Timer) → upPhase phase ≡ true
-            → Stands n (wayIn phase timer) (w .asked) (w .answers) (w .count) q (owed n h) (wantedAtTick h) → 2 ≤ firstRunning n q
-        later Phase.Off timer e i = absurd (false≢true e)
-        later Phase.Rising timer e i = absurd (false≢true e)
-        later Phase.Checking timer e i = i .0 .later
-        later Phase.Full timer e i = i .0 .later
-        later Phase.Recovering timer e i = i .0 .later
-        later Phase.Silent timer e i = i .0 .later
-        later Phase.Falling timer e i = absurd (false≢true e)
+        not-else : (phase : Phase) (timer : Timer)
+            → Stands n (wayIn phase timer) (w .asked) (w .answers) (w .count) q (owed n h) (wantedAtTick h) (afterStall n h) → ⊥
+        not-else Phase.Off timer i = omega (arith, o, i .0 .delay)
+        not-else Phase.Rising timer i = omega (arith, o, i .0 .delay)
+        not-else Phase.Checking timer i = omega (arith, z, i .0 .later)
+        not-else Phase.Full timer i = omega (arith, z, i .0 .later)
+        not-else Phase.Recovering timer i = omega (arith, z, i .0 .later)
+        not-else Phase.Silent timer i = omega (arith, z, i .0 .later)
+        not-else Phase.Falling timer i = omega (arith, o, i .0 .delay)
+        not-else Phase.Resetting timer i = omega (arith, o, i .0 .delay)
 
-        by-test : (b : Bool) → Stands n (cond b (starting (isUp (w .step))) (wayIn (phaseOf (w .step)) (timerOf (w .step))))
-            (w .asked) (w .answers) (w .count) q (owed n h) (wantedAtTick h) → b ≡ true
+        by-test : (b : Bool) → Stands n (cond b (starting (causeIn (phaseOf (w .step)))) (wayIn (phaseOf (w .step)) (timerOf (w .step))))
+            (w .asked) (w .answers) (w .count) q (owed n h) (wantedAtTick h) (afterStall n h) → b ≡ true
         by-test true i = refl
-        by-test false i = absurd (omega (arith, later (phaseOf (w .step)) (timerOf (w .step)) (sym (up-means n h r) ∙ u) i))
+        by-test false i = absurd (not-else (phaseOf (w .step)) (timerOf (w .step)) i)
 
-    starts-again : Starts n (isUp (w .step)) (w .asked) (w .answers) (w .count) q (owed n h)
+    starts-again : Starts n (causeIn (phaseOf (w .step))) (w .asked) (w .answers) (w .count) q (owed n h) (afterStall n h)
     starts-again = rw starting-again at (stands-at n g f h r)
 
     -- each of them was, exactly if a tick came
@@ -393,11 +470,12 @@ module _ (n : Network) (g : InRange n) (f : Distinct (controllersOf n)) (h : Own
         → e .accepted ≡ true
     unfolding takesReport
     okay-accepted e fits some c m = by-part n w (λ e t. isAnswer c 1 (e .sight) ≡ true → e .accepted ≡ true) (record {
-      plain = λ sight accepted mode reported p a. absurd (true≢false (sym awaited ∙ p .deaf c m a));
+      plain = λ sight accepted mode reported p a. absurd (true≢false (sym awaited ∙ p .deaf c ControllerMode.Started m a));
       hears = λ c mode ok m l t a. refl;
       recovers = λ b a. refl;
       restarts = λ b s a. refl;
       not-taken = λ b s a. absurd (false≢true a);
+      resets = λ b a. refl;
       ticks = λ a. refl;
     }) e fits
       where

@@ -6,7 +6,7 @@ use Rattle.records.specs.Records.{modeNumber}
 use Rattle.settings.specs.declared.Network.{Network}
 use Rattle.settings.specs.Settings.{controllersOf, member}
 use Rattle.steps.specs.declared.Step.{Step}
-use Rattle.steps.specs.declared.Step.the-variants.{ControllersStopped, ControllersStarted}
+use Rattle.steps.specs.declared.Step.the-variants.{ControllersStopped, ControllersStarted, ResetStopped}
 use Rattle.steps.specs.declared.Move.{Move}
 use Rattle.steps.specs.Steps.{phaseOf, asksFor, fullPhase, isOn, isUp, isFullStep, asksToStart}
 use Rattle.steps.specs.Decision.{isNo, goesDown}
@@ -81,6 +81,7 @@ module _ (n : Network) (s : State) (u : suits (ownOutfit n) (s .step) ≡ true) 
     stays-silent = λ f. absurd (false≢true f);
     waits = λ wanted w d f. absurd (false≢true f);
     waits-on = λ t wanted w r f. absurd (false≢true f);
+    resumes = λ wanted w d f. absurd (false≢true f);
     fills = λ step q e f. absurd (false≢true (sym e ∙ f));
     silences = λ step q f. refl;
     goes-down = λ step o f. first-down-not-full (n .partial);
@@ -107,6 +108,7 @@ module _ (n : Network) (s : State) (u : suits (ownOutfit n) (s .step) ≡ true) 
         stays-silent = λ f. absurd (false≢true f);
         waits = λ wanted w d f. absurd (false≢true f);
         waits-on = λ t wanted w r f. absurd (false≢true f);
+        resumes = λ wanted w d f. absurd (false≢true f);
         fills = λ step q e f. filled f step e;
         silences = λ step q f. absurd (false≢true f);
         goes-down = λ step o f. absurd (false≢true f);
@@ -145,6 +147,7 @@ module _ (n : Network) (s : State) (u : suits (ownOutfit n) (s .step) ≡ true) 
     stays-silent = refl;
     waits = λ wanted w d. rw (sym (no-number wanted) ∙ w) refl;
     waits-on = λ t wanted w r. rw (sym (no-number wanted) ∙ w) refl;
+    resumes = λ wanted w d. rw (sym (no-number wanted) ∙ w) refl;
     fills = λ step q e. refl;
     silences = λ step q. refl;
     goes-down = λ step o. sym o;
@@ -152,12 +155,14 @@ module _ (n : Network) (s : State) (u : suits (ownOutfit n) (s .step) ≡ true) 
     ends = λ step wanted d. rw (d .falls) (sym (and-false (eqb 0 (modeNumber wanted))));
   }) u k
 
-  -- a request to start goes to an own controller, where the network is on and no is not wanted; and where none was asked before, step 2 is done
+  -- a request to start goes to an own controller, where the network is on and no is not wanted; where none was asked before, step 2 is done; and
+  -- from step 15 it goes out only where that is done
   pub record StartAsked (c : ℕ) (step : Step) (wanted : Mode) : Type 0 where
     pub own : member c (controllersOf n) ≡ true
     pub while-on : isOn step ≡ true
     pub called : eqb 0 (modeNumber wanted) ≡ false
     pub first : hasBegun step ≡ false → (step ≡ ControllersStopped) × (finished n s ≡ true)
+    pub again : step ≡ ResetStopped → finished n s ≡ true
 
   -- a step that asks again to start is on, and has begun
   begins-again : (c : ℕ) (step : Step) (wanted : Mode) → Asks (ownOutfit n) step → goesDown step wanted ≡ false
@@ -171,6 +176,7 @@ module _ (n : Network) (s : State) (u : suits (ownOutfit n) (s .step) ≡ true) 
         while-on = o;
         called = no-unwanted step wanted o g;
         first = λ e. absurd (true≢false (sym (or-second (isUp step) _ starts) ∙ e));
+        again = λ e. absurd (true≢false (sym starts ∙ ap (λ (x : Step). asksToStart (asksFor x)) e));
       }
 
   abbrev Begins : ℕ → Step → Mode → Move → Type 0
@@ -182,7 +188,7 @@ module _ (n : Network) (s : State) (u : suits (ownOutfit n) (s .step) ≡ true) 
     called = λ u f. absurd (false≢true f);
     called-bare = λ u f. absurd (false≢true f);
     climbs = λ d f. absurd (false≢true f);
-    begins = λ d f. record { own = f; while-on = refl; called = refl; first = λ e. (refl, d) };
+    begins = λ d f. record { own = f; while-on = refl; called = refl; first = λ e. (refl, d); again = λ _. d };
     starts = λ d f. absurd (false≢true f);
     asks-again = λ step wanted a g f. begins-again c step wanted a g f;
     checks = λ t r f. absurd (false≢true f);
@@ -191,6 +197,8 @@ module _ (n : Network) (s : State) (u : suits (ownOutfit n) (s .step) ≡ true) 
     stays-silent = λ f. absurd (false≢true f);
     waits = λ wanted w d f. absurd (false≢true f);
     waits-on = λ t wanted w r f. absurd (false≢true f);
+    resumes = λ wanted w d f.
+        record { own = f; while-on = refl; called = sym (no-number wanted) ∙ w; first = λ e. absurd (true≢false e); again = λ _. d };
     fills = λ step q e f. absurd (false≢true f);
     silences = λ step q f. absurd (false≢true f);
     goes-down = λ step o f. absurd (false≢true (rw (nothing-lowered (s .told), first-down-starts-not (n .partial)) at f));
@@ -221,8 +229,9 @@ module _ (n : Network) (s : State) (u : suits (ownOutfit n) (s .step) ≡ true) 
         stays-silent = λ f. absurd (true≢false f);
         waits = λ wanted w d f. absurd (true≢false f);
         waits-on = λ t wanted w r f. absurd (true≢false f);
-        fills = λ step q e f. absurd (true≢false (sym (up-rested (phaseOf step) (q .up)) ∙ f));
-        silences = λ step q f. absurd (true≢false (sym (up-rested (phaseOf step) (q .up)) ∙ f));
+        resumes = λ wanted w d f. absurd (true≢false f);
+        fills = λ step q e f. absurd (true≢false (sym (up-rested (phaseOf step) q) ∙ f));
+        silences = λ step q f. absurd (true≢false (sym (up-rested (phaseOf step) q) ∙ f));
         goes-down = λ step o f. absurd (true≢false (sym (on-rested (phaseOf step) o) ∙ f));
         sinks = λ step next wanted d e _ f. (λ c. rw (awaits-started (asksFor next), e .starts-not) refl, refl, refl);
         ends = λ step wanted d f. (λ c. refl, refl, refl);
@@ -253,6 +262,7 @@ module _ (n : Network) (s : State) (u : suits (ownOutfit n) (s .step) ≡ true) 
     stays-silent = λ f. refl;
     waits = λ wanted w d f. refl;
     waits-on = λ t wanted w r f. refl;
+    resumes = λ wanted w d f. absurd (false≢true f);
     fills = λ step q e f. refl;
     silences = λ step q f. refl;
     goes-down = λ step o f. absurd (false≢true (sym (first-down-not-full (n .partial)) ∙ f));

@@ -1,4 +1,4 @@
--- Where a network stands by what it told: it is up exactly in steps 4 to 8, and no is the mode last told exactly if full was not told since.
+-- Where a network stands by what it told: it is up exactly in the up steps, and no is the mode last told exactly if full was not told since.
 use Rattle.lists.proofs.Basics.{_≡_, refl, sym, ap, _∙_, [], _∷_, Bool, true, false, cond, not, _||_, false≢true, eqb}
 use Rattle.lists.specs.Lists.{any}
 use Rattle.records.specs.declared.Mode.{Mode}
@@ -8,13 +8,13 @@ use Rattle.steps.specs.declared.Step.{Step}
 use Rattle.steps.specs.declared.Move.{Move}
 use Rattle.steps.specs.Steps.{upPhase, isUp}
 use Rattle.steps.specs.After.{firstDown, stepAfter}
-use Rattle.handing.specs.Handing.{recovery}
+use Rattle.handing.specs.Handing.{recovery, reset}
 use Rattle.network.specs.declared.State.{State}
 use Rattle.network.specs.State.{started}
 use Rattle.network.specs.Moving.{lowered, toldAfter, afterMove}
 use Rattle.network.specs.BusOff.{madeAnew, afterHit}
 use Rattle.network.specs.Parts.{aTick}
-use Rattle.network_theorems.proofs.Moves.{ByMove}
+use Rattle.network_theorems.proofs.Moves.{ByMove, full-quiet}
 use Rattle.network_demands.specs.Words.{Seen, OwnHistory, hands, since, shut, up}
 use Rattle.network_demands.specs.Own.{finished, decides, tickAfter, tickHands, played, stateOf, Fits, Ran}
 use Rattle.network_demands.proofs.Views.{seen, by-part, by-tick}
@@ -56,7 +56,7 @@ up-after partial done = record {
   passes = λ step wanted p f. sym (p .up);
   fills = λ step wanted p. refl;
   starts = λ step wanted d a. refl;
-  silences = λ step wanted p. sym (p .up);
+  silences = λ step wanted u. sym u;
   waits = λ step wanted d a f. sym (ap upPhase f);
   goes-down = λ step o. first-down-not-up partial;
   ends = λ step wanted u. sym u;
@@ -83,7 +83,7 @@ voice-after partial told spoken done = record {
   passes = λ step wanted p f e v. (e, λ _. v (p .up));
   fills = λ step wanted p e v. (refl, λ _. refl);
   starts = λ step wanted d a e v. (refl, λ _. refl);
-  silences = λ step wanted p e v. (sym (ap not (v (p .up))), λ _. v (p .up));
+  silences = λ step wanted u e v. (sym (ap not (v u)), λ _. v u);
   waits = λ step wanted d a f e v. (e, λ _. v (ap upPhase f));
   goes-down = λ step o e v. (lowered-no told ∙ e, λ u. absurd (false≢true (sym (first-down-not-up partial) ∙ u)));
   ends = λ step wanted u e v. (refl, λ z. absurd (false≢true z));
@@ -124,7 +124,7 @@ module _ (n : Network) (h : OwnHistory) (s : State) (k : Says n s h) where
       }
 
   says-call : (e : Seen) → Fits n s e → StillSays e (played n s (e .sight) .state)
-  unfolding any recovery afterHit madeAnew
+  unfolding any recovery reset afterHit madeAnew
   says-call = by-part n s StillSays (record {
     plain = λ sight accepted mode reported p. says-same _ _ refl refl refl refl refl;
     hears = λ c mode ok m l e. says-same _ _ refl refl refl refl refl;
@@ -132,6 +132,7 @@ module _ (n : Network) (h : OwnHistory) (s : State) (k : Says n s h) where
         says-same _ _ refl refl refl (sym u) (sym (k .silence ∙ ap not (k .voice u)));
     restarts = λ u a. says-same _ _ refl refl refl refl refl;
     not-taken = λ u a. says-same _ _ refl refl refl refl refl;
+    resets = λ f. let u = full-quiet (s .step) f .up in says-same _ _ refl refl refl (sym u) (sym (k .silence ∙ ap not (k .voice u)));
     ticks = says-tick;
   })
 
@@ -142,6 +143,6 @@ says n [] r =
     record { stands = sym down; silence = refl; voice = λ u. absurd (false≢true (sym down ∙ u)) }
 says n (e ∷ h) r = says-call n h (stateOf n h) (says n h (r .1)) e (r .0)
 
--- up is read off what was told: a network is up in steps 4 to 8
+-- up is read off what was told: a network is up in steps 4 to 8, 15 and 16
 pub up-means : (n : Network) (h : OwnHistory) → Ran n h → up n h ≡ isUp (stateOf n h .step)
 up-means n h r = says n h r .stands

@@ -1,36 +1,42 @@
--- What one network sees, once: whatever holds of each of six effects holds of every entry of its history.
-use Rattle.lists.proofs.Basics.{ℕ, arith, eqb-true, ltb-true, _≡_, refl, sym, ap, subst, _∙_, List, [], Bool, true, false, _&&_, cond, false≢true}
+-- What one network sees, once: whatever holds of each of seven effects holds of every entry of its history.
+use Rattle.lists.proofs.Basics.{ℕ, _<_, arith, eqb-true, ne-eqb, ltb-true, _≡_, refl, sym, ap, subst, _∙_, List, [], Bool, true, false, _&&_, cond}
+use Rattle.lists.proofs.Basics.{false≢true}
 use Rattle.lists.proofs.Basics.{_||_, or-false, or-true, and-false, true≢false, eqb, ltb, set}
 use Rattle.lists.proofs.Any.{and-both}
-use Rattle.lists.specs.Lists.{any, first}
+use Rattle.lists.proofs.Tests.{split}
+use Rattle.lists.specs.Lists.{any, first, padded}
+use Rattle.records.specs.declared.ControllerMode.{ControllerMode}
 use Rattle.records.specs.declared.Mode.{Mode}
 use Rattle.records.specs.declared.Record.{Record}
-use Rattle.records.specs.Records.{modeNumber}
+use Rattle.records.specs.Records.{controllerNumber, modeNumber}
 use Rattle.settings.specs.declared.Network.{Network}
-use Rattle.settings.specs.Settings.{controllersOf, member}
+use Rattle.settings.specs.Settings.{mostControllers, controllersOf, member}
 use Rattle.settings.specs.Good.{InRange}
 use Rattle.steps.specs.declared.Step.{Step}
 use Rattle.steps.specs.declared.Ask.{Ask}
 use Rattle.steps.specs.declared.Move.{Move}
-use Rattle.steps.specs.Steps.{asksFor, isAsk, asksToStart, isUp}
-use Rattle.handing.specs.Handing.{recovery}
+use Rattle.steps.specs.Steps.{asksFor, isAsk, asksToStart, isUp, isFullStep}
+use Rattle.handing.specs.Handing.{recovery, reset}
 use Rattle.network.specs.declared.Hit.{Hit}
+use Rattle.network.specs.declared.LastAnswer.{LastAnswer}
 use Rattle.network.specs.declared.Part.{Part}
 use Rattle.network.specs.declared.Report.{Report}
 use Rattle.network.specs.declared.State.{State}
 use Rattle.network.specs.State.{heard, heardOf, wants}
 use Rattle.network.specs.Rules.{isRefusal, outfitOf}
-use Rattle.network.specs.Answers.{takesReport, answerOf, withAnswers, afterAnswer, afterReport}
+use Rattle.network.specs.Answers.{awaits, takesReport, answerOf, withAnswers, afterAnswer, afterReport}
 use Rattle.network.specs.Moving.{afterMove}
 use Rattle.network.specs.BusOff.{hitOf, madeAnew, afterHit, hitRecords}
-use Rattle.network.specs.Parts.{Sight, aTick, aBusOff, anAnswer, aRequest, aReport, nothing, isTaken, hitReply, requestPart, reportPart, answerPart}
-use Rattle.network_theorems.specs.Kept.{Kept}
+use Rattle.network.specs.Parts.{Sight, aTick, aBusOff, aStall, anAnswer, aRequest, aReport, nothing, isTaken, hitReply, requestPart, reportPart}
+use Rattle.network.specs.Parts.{answerPart}
+use Rattle.network_theorems.specs.Kept.{isFullMode, Kept}
 use Rattle.network_theorems.proofs.Moves.{ByMove, by-move}
 use Rattle.network_theorems.proofs.Kept.{move-kept, want-kept, hit-kept, answer-kept, report-kept}
 use Rattle.network_theorems.proofs.Parts.{by-hit, by-request, by-report, by-answer}
-use Rattle.network_demands.specs.Words.{Seen, isTick, isBusOff, isAnswerOn, isAnswer, wantedBy}
-use Rattle.network_demands.specs.Own.{finished, reaches, decides, tickAfter, tickHands, recovered, restarted, hitAfter, played, handed}
-use Rattle.network_demands.specs.Own.{concerns, Fits}
+use Rattle.network_demands.specs.Words.{Seen, isTick, isBusOff, isStall, isAnswerOn, wantedBy}
+use Rattle.network_demands.specs.Own.{finished, reaches, decides, tickAfter, tickHands, recovered, restarted, stalls, resetAfter, hitAfter}
+use Rattle.network_demands.specs.Own.{played, handed, concerns, Fits}
+use Rattle.network_demands.proofs.Tests.{stalls-just}
 
 -- what a test picks from two that are the same
 pub either-way : {A : Type 0} (b : Bool) (x : A) → x ≡ cond b x x
@@ -49,7 +55,7 @@ seatOf n c = first (λ (x : ℕ). eqb x c) (controllersOf n)
 abbrev pub heardState : Network → State → ℕ → ℕ → State
 heardState n s c ok = withAnswers s (set (s .answers) (seatOf n c) (heard (answerOf (eqb ok 1))))
 
--- ---- the six effects
+-- ---- the seven effects
 -- only the wanted mode and the report can change
 abbrev pub plainState : State → Mode → Bool → State
 plainState s mode reported =
@@ -59,20 +65,23 @@ plainState s mode reported =
 abbrev pub takesSight : State → Sight → Bool
 takesSight s aTick = false
 takesSight s aBusOff = false
+takesSight s aStall = false
 takesSight s (anAnswer controller mode ok) = false
 takesSight s (aRequest mode) = false
 takesSight s (aReport report) = takesReport s report
 takesSight s nothing = false
 
--- nothing is handed out, and it is no tick, no bus-off and no accepted answer of a controller of the network
+-- nothing is handed out, and it is no tick, no bus-off, no accepted stall and no accepted answer of a controller of the network
 pub record Plain (n : Network) (s : State) (sight : Sight) (accepted : Bool) (mode : Mode) (reported : Bool) : Type 0 where
   pub tick : isTick sight ≡ false
   pub bus-off : isBusOff sight ≡ false
+  pub stall : isStall sight && accepted ≡ false
   pub answer : (c mode value : ℕ) → member c (controllersOf n) ≡ true → isAnswerOn c mode value sight && accepted ≡ false
   -- the mode is that of an accepted request, and else the one before
   pub wanted : modeNumber mode ≡ cond accepted (wantedBy sight (modeNumber (s .wanted))) (modeNumber (s .wanted))
-  -- it is no ok to the request to start, where that is awaited
-  pub deaf : (c : ℕ) → member c (controllersOf n) ≡ true → isAnswer c 1 sight ≡ true → takesReport s (Report.Controller 1) ≡ false
+  -- it is no ok to a request, where that is awaited
+  pub deaf : (c : ℕ) (mode : ControllerMode) → member c (controllersOf n) ≡ true → isAnswerOn c (controllerNumber mode) 1 sight ≡ true
+      → takesReport s (Report.Controller (controllerNumber mode)) ≡ false
   -- a report has come where one had before or this is one that is taken
   pub reports : reported ≡ s .reported || (takesSight s sight && accepted)
   pub kept : Kept n s → Kept n (plainState s mode reported)
@@ -86,36 +95,41 @@ pub record ByPart (n : Network) (s : State) (P : Seen → State → Type 0) : Ty
   pub recovers : isUp (s .step) ≡ true → P (seen aBusOff true (recovery (n .handle))) (recovered s)
   pub restarts : isUp (s .step) ≡ false → asksToStart (asksFor (s .step)) ≡ true → P (seen aBusOff true []) (restarted s)
   pub not-taken : isUp (s .step) ≡ false → asksToStart (asksFor (s .step)) ≡ false → P (seen aBusOff false []) s
+  pub resets : isFullStep (s .step) ≡ true → P (seen aStall true (reset (n .handle))) (resetAfter s)
   pub ticks : P (seen aTick true (tickHands n s)) (tickAfter n s)
 
 module _ (n : Network) (s : State) (P : Seen → State → Type 0) (by : ByPart n s P) where
-  -- what is seen is no tick, no bus-off, no answer and no accepted request
-  quiet : (sight : Sight) (accepted reported : Bool) → isTick sight ≡ false → isBusOff sight ≡ false → ((c mode value : ℕ) →
-      isAnswerOn c mode value sight ≡ false) → modeNumber (s .wanted) ≡ cond accepted (wantedBy sight (modeNumber (s .wanted)))
+  -- what is seen is no tick, no bus-off, no accepted stall, no answer and no accepted request
+  quiet : (sight : Sight) (accepted reported : Bool) → isTick sight ≡ false → isBusOff sight ≡ false → isStall sight && accepted ≡ false
+      → ((c mode value : ℕ) → isAnswerOn c mode value sight ≡ false)
+      → modeNumber (s .wanted) ≡ cond accepted (wantedBy sight (modeNumber (s .wanted)))
       (modeNumber (s .wanted)) → reported ≡ s .reported || (takesSight s sight && accepted) →
       (Kept n s → Kept n (plainState s (s .wanted) reported)) → P (seen sight accepted []) (plainState s (s .wanted) reported)
-  quiet sight accepted reported t b a w r k = by .plain sight accepted (s .wanted) reported (record {
+  quiet sight accepted reported t b x a w r k = by .plain sight accepted (s .wanted) reported (record {
     tick = t;
     bus-off = b;
+    stall = x;
     answer = λ c mode value m. rw (a c mode value) refl;
     wanted = w;
-    deaf = λ c m e. absurd (false≢true (sym (a c 1 1) ∙ e));
+    deaf = λ c mode m e. absurd (false≢true (sym (a c (controllerNumber mode) 1) ∙ e));
     reports = r;
     kept = k;
   })
 
   -- an answer of a controller that is not taken, or of a controller of another network
   unheard : (c mode ok : ℕ) (accepted : Bool) → (member c (controllersOf n) ≡ true → accepted ≡ false) → (member c (controllersOf n) ≡ true →
-      1 ≡ mode → 1 ≡ ok → takesReport s (Report.Controller 1) ≡ false) → P (seen (anAnswer c mode ok) accepted []) s
+      1 ≡ ok → takesReport s (Report.Controller mode) ≡ false) → P (seen (anAnswer c mode ok) accepted []) s
   unheard c mode ok accepted z f = by .plain (anAnswer c mode ok) accepted (s .wanted) (s .reported) (record {
     tick = refl;
     bus-off = refl;
+    stall = refl;
     answer = λ c′ mode′ value m. refused c′ mode′ value m (isAnswerOn c′ mode′ value (anAnswer c mode ok)) refl;
     wanted = either-way accepted (modeNumber (s .wanted));
-    deaf = λ c′ m e.
+    deaf = λ c′ mode′ m e.
         let p = and-both (eqb c′ c) _ e in
-        let q = and-both (eqb 1 mode) _ (p .1) in
-        f (own c′ m (p .0)) (eqb-true 1 mode (q .0)) (eqb-true 1 ok (q .1));
+        let q = and-both (eqb (controllerNumber mode′) mode) _ (p .1) in
+        ap (λ (k : ℕ). takesReport s (Report.Controller k)) (eqb-true (controllerNumber mode′) mode (q .0))
+        ∙ f (own c′ m (p .0)) (eqb-true 1 ok (q .1));
     reports = sym (or-false (s .reported));
     kept = λ k. k;
   })
@@ -132,20 +146,35 @@ module _ (n : Network) (s : State) (P : Seen → State → Type 0) (by : ByPart 
   heard-by : (c mode ok : ℕ) → ltb 1 ok ≡ false → takesReport s (Report.Controller mode) ≡ true → (own : Bool) → member c (controllersOf n) ≡ own
       → P (seen (anAnswer c mode ok) true []) (cond own (heardState n s c ok) s)
   heard-by c mode ok l t true m = by .hears c mode ok m l t
-  heard-by c mode ok l t false m = unheard c mode ok true (λ e. absurd (true≢false (sym e ∙ m))) (λ e _ _. absurd (true≢false (sym e ∙ m)))
+  heard-by c mode ok l t false m = unheard c mode ok true (λ e. absurd (true≢false (sym e ∙ m))) (λ e _. absurd (true≢false (sym e ∙ m)))
 
   -- ---- by what is seen
   -- an entry whose answer is the one that is due
   abbrev Due : Sight → Bool → Part → Type 0
   Due sight accepted part = accepted ≡ isTaken (part .reply) → P (seen sight accepted []) (part .state)
 
+  -- no step asks for a mode above 2
+  above-not-taken : (mode : ℕ) → 2 < mode → takesReport s (Report.Controller mode) ≡ false
+  unfolding takesReport
+  above-not-taken mode l = by-ask (s .asked) (asksFor (s .step))
+    where
+      by-ask : (asked : Bool) (ask : Ask) → cond asked (awaits ask (Report.Controller mode)) false ≡ false
+      by-ask false ask = refl
+      by-ask true Ask.Nothing = refl
+      by-ask true (Ask.Controllers ControllerMode.Stopped) = ne-eqb 0 mode (λ e. omega (arith, e))
+      by-ask true (Ask.Controllers ControllerMode.Started) = ne-eqb 1 mode (λ e. omega (arith, e))
+      by-ask true (Ask.Controllers ControllerMode.Sleep) = ne-eqb 2 mode (λ e. omega (arith, e))
+      by-ask true (Ask.Transceiver asked) = refl
+      by-ask true Ask.ClearWake = refl
+      by-ask true Ask.CheckWake = refl
+
   answers : (c mode ok : ℕ) (accepted : Bool) → Due (anAnswer c mode ok) accepted (answerPart n s c mode ok)
   unfolding afterAnswer
   answers c mode ok accepted =
       by-answer s (Due (anAnswer c mode ok) accepted) n c mode ok (λ l t e. subst (λ (b : Bool). P (seen (anAnswer c mode ok) b []) (afterAnswer n s
-      c (eqb ok 1))) (sym e) (heard-by c mode ok l t (member c (controllersOf n)) refl)) (λ o e. unheard c mode ok accepted (λ _. e) (λ _ _ f. absurd
-      (omega (arith, ltb-true 1 ok o, f)))) (λ o e. unheard c mode ok accepted (λ _. e) (λ _ f _. absurd (omega (arith, ltb-true 2 mode o, f))))
-      (λ t e. unheard c mode ok accepted (λ _. e) (λ _ f _. ap (λ (k : ℕ). takesReport s (Report.Controller k)) f ∙ t))
+      c (eqb ok 1))) (sym e) (heard-by c mode ok l t (member c (controllersOf n)) refl)) (λ o e. unheard c mode ok accepted (λ _. e) (λ _ f. absurd
+      (omega (arith, ltb-true 1 ok o, f)))) (λ o e. unheard c mode ok accepted (λ _. e) (λ _ _. above-not-taken mode (ltb-true 2 mode o)))
+      (λ t e. unheard c mode ok accepted (λ _. e) (λ _ _. t))
 
   requests : (number : ℕ) (accepted : Bool) → Due (aRequest number) accepted (requestPart s number)
   unfolding wants
@@ -154,9 +183,10 @@ module _ (n : Network) (s : State) (P : Seen → State → Type 0) (by : ByPart 
       (by .plain (aRequest number) true mode (s .reported) (record {
         tick = refl;
         bus-off = refl;
+        stall = refl;
         answer = λ c mode value m. refl;
         wanted = sym same;
-        deaf = λ c m f. absurd (false≢true f);
+        deaf = λ c mode m f. absurd (false≢true f);
         reports = sym (or-false (s .reported));
         kept = want-kept n s mode may;
       })))
@@ -165,19 +195,19 @@ module _ (n : Network) (s : State) (P : Seen → State → Type 0) (by : ByPart 
       unchanged : accepted ≡ false → P (seen (aRequest number) accepted []) s
       unchanged e =
           quiet (aRequest number) accepted
-          (s .reported) refl refl (λ c mode value. refl) (ap (λ (b : Bool). cond b number (modeNumber (s .wanted))) (sym e))
+          (s .reported) refl refl refl (λ c mode value. refl) (ap (λ (b : Bool). cond b number (modeNumber (s .wanted))) (sym e))
           (sym (or-false (s .reported))) (λ k. k)
 
   reports : (report : Report) (accepted : Bool) → Due (aReport report) accepted (reportPart s report)
   unfolding reportPart afterReport
   reports report accepted = by-report s (Due (aReport report) accepted) report _
-      (λ t e. quiet (aReport report) accepted true refl refl (λ c mode value. refl) (either-way accepted (modeNumber (s .wanted)))
+      (λ t e. quiet (aReport report) accepted true refl refl refl (λ c mode value. refl) (either-way accepted (modeNumber (s .wanted)))
       (rw (t, e) (sym (or-true (s .reported)))) (report-kept n s report t))
       (λ _. unchanged) (λ _. unchanged)
     where
       unchanged : accepted ≡ false → P (seen (aReport report) accepted []) s
       unchanged e =
-          quiet (aReport report) accepted (s .reported) refl refl (λ c mode value. refl) (either-way accepted (modeNumber (s .wanted)))
+          quiet (aReport report) accepted (s .reported) refl refl refl (λ c mode value. refl) (either-way accepted (modeNumber (s .wanted)))
           (rw (e, and-false (takesReport s report)) (sym (or-false (s .reported)))) (λ k. k)
 
   bus-offs : (accepted : Bool) → accepted ≡ isTaken (hitReply (hitOf (s .step)))
@@ -188,16 +218,27 @@ module _ (n : Network) (s : State) (P : Seen → State → Type 0) (by : ByPart 
       (λ u a e. subst (λ (b : Bool). P (seen aBusOff b []) (restarted s)) (sym e) (by .restarts u a))
       (λ u a e. subst (λ (b : Bool). P (seen aBusOff b []) s) (sym e) (by .not-taken u a))
 
+  stalling : (accepted : Bool) → accepted ≡ isTaken (hitReply (stalls (s .step)))
+      → P (seen aStall accepted (hitRecords n (stalls (s .step)))) (hitAfter s (stalls (s .step)))
+  unfolding hitRecords
+  stalling accepted =
+      let Q : Hit → Type 0 = λ hit. accepted ≡ isTaken (hitReply hit) → P (seen aStall accepted (hitRecords n hit)) (hitAfter s hit) in
+      subst Q (sym (stalls-just (s .step))) (split Q (isFullStep (s .step))
+      (λ f e. subst (λ (b : Bool). P (seen aStall b (reset (n .handle))) (resetAfter s)) (sym e) (by .resets f))
+      (λ f e. quiet aStall accepted (s .reported) refl refl e (λ c mode value. refl) (either-way accepted (modeNumber (s .wanted)))
+      (sym (or-false (s .reported))) (λ k. k)))
+
   by-sight : (sight : Sight) (accepted : Bool) → (concerns sight ≡ true → accepted ≡ isTaken (played n s sight .reply))
       → P (seen sight accepted (handed n s sight)) (played n s sight .state)
   unfolding played handed
   by-sight aTick accepted f = subst (λ (b : Bool). P (seen aTick b (tickHands n s)) (tickAfter n s)) (sym (f refl)) (by .ticks)
   by-sight aBusOff accepted f = bus-offs accepted (f refl)
+  by-sight aStall accepted f = stalling accepted (f refl)
   by-sight (anAnswer c mode ok) accepted f = answers c mode ok accepted (f refl)
   by-sight (aRequest mode) accepted f = requests mode accepted (f refl)
   by-sight (aReport report) accepted f = reports report accepted (f refl)
   by-sight nothing accepted f =
-      quiet nothing accepted (s .reported) refl refl (λ c mode value. refl) (either-way accepted (modeNumber (s .wanted)))
+      quiet nothing accepted (s .reported) refl refl refl (λ c mode value. refl) (either-way accepted (modeNumber (s .wanted)))
       (sym (or-false (s .reported))) (λ k. k)
 
   -- whatever holds of each effect holds of every entry that fits
@@ -226,19 +267,31 @@ tick-after-kept n s k =
       slots = after .slots;
     }
 
+-- a record in an up step that asks, with nothing asked or kept as answered: after a bus-off while up, and after a stall
+struck-kept : (n : Network) (t : State) → isFullMode (t .told) ≡ isFullStep (t .step) → isUp (t .step) ≡ true → isAsk (asksFor (t .step)) ≡ true
+    → t .asked ≡ false → t .reported ≡ false → t .answers ≡ padded mostControllers (heard LastAnswer.Pending) (heardOf n t) → Kept n t
+struck-kept n t told up asks asked reported slots = record {
+  told = told;
+  wanted = λ f. up;
+  asked = λ f. asked;
+  answers = λ f. absurd (true≢false (sym asks ∙ f));
+  reported = λ f. reported;
+  slots = slots;
+}
+
 recovered-kept : (n : Network) (s : State) → Kept n s → Kept n (recovered s)
 unfolding afterHit madeAnew
 recovered-kept n s k =
     let blank = hit-kept n s Hit.Recover k .slots in
     let kept = k .slots in
-    record {
-      told = refl;
-      wanted = λ f. refl;
-      asked = λ f. refl;
-      answers = λ f. absurd (true≢false f);
-      reported = λ f. refl;
-      slots = search (blank, kept);
-    }
+    struck-kept n (recovered s) refl refl refl refl refl (search (blank, kept))
+
+reset-kept : (n : Network) (s : State) → Kept n s → Kept n (resetAfter s)
+unfolding afterHit madeAnew
+reset-kept n s k =
+    let blank = hit-kept n s Hit.Reset k .slots in
+    let kept = k .slots in
+    struck-kept n (resetAfter s) refl refl refl refl refl (search (blank, kept))
 
 -- a step that asks to start asks for something
 pub starts-asks : (ask : Ask) → asksToStart ask ≡ true → isAsk ask ≡ true
@@ -270,5 +323,6 @@ part-kept n s g k = by-part n s (λ e t. Kept n t) (record {
   recovers = λ u. recovered-kept n s k;
   restarts = λ u a. restarted-kept n s a k;
   not-taken = λ u a. k;
+  resets = λ f. reset-kept n s k;
   ticks = tick-after-kept n s k;
 })

@@ -10,7 +10,7 @@ use Rattle.settings.specs.Good.{Distinct, InRange}
 use Rattle.steps.specs.declared.Step.{Step}
 use Rattle.steps.specs.declared.Step.the-variants.{NoCommunication, TransceiverNormal, ControllersStopped, ControllersStarted, Checking, Full}
 use Rattle.steps.specs.declared.Step.the-variants.{Restarting, Waiting, Silent, ClearWake, DownStopped, TransceiverStandby, ControllersSleep}
-use Rattle.steps.specs.declared.Step.the-variants.{CheckWake, CheckWakeAgain}
+use Rattle.steps.specs.declared.Step.the-variants.{CheckWake, CheckWakeAgain, ResetStopped, ResetStarted}
 use Rattle.steps.specs.declared.Move.{Move}
 use Rattle.steps.specs.Steps.{upPhase, isAsking}
 use Rattle.steps.specs.Decision.{risen}
@@ -19,7 +19,7 @@ use Rattle.network.specs.declared.Heard.{Heard}
 use Rattle.network.specs.declared.State.{State}
 use Rattle.network.specs.Moving.{afterMove}
 use Rattle.network.specs.Parts.{aTick}
-use Rattle.network_demands.specs.Words.{Seen, OwnHistory, since, tally, ticked, setback, wantedAtTick, owed, firstRunning}
+use Rattle.network_demands.specs.Words.{Seen, OwnHistory, since, tally, ticked, setback, wantedAtTick, owed, afterStall, firstRunning}
 use Rattle.network_demands.specs.Own.{decides, tickAfter, tickHands, played, stateOf, Ran}
 use Rattle.network_demands.specs.Promises.{waitBegins}
 use Rattle.network_demands.proofs.Views.{seen}
@@ -27,7 +27,8 @@ use Rattle.network_demands.proofs.Arrows.{by-tick-arrow}
 use Rattle.network_demands.proofs.Handed.{isWait, isGoDown, both-by, none-by, move-shuts}
 use Rattle.network_demands.proofs.Follows.{state-kept}
 use Rattle.network_demands.proofs.Running.{since-by, owed-by}
-use Rattle.network_demands.proofs.Way.{Way, away, starting, delayed, there, silenced, wayOf, isBeginning, way-away, first-down-away, Stands}
+use Rattle.network_demands.proofs.Way.{Way, away, stopping, starting, delayed, there, silenced, wayOf, isBeginning, way-away, first-down-away}
+use Rattle.network_demands.proofs.Way.{Stands}
 use Rattle.network_demands.proofs.Standing.{stands}
 use Rattle.network_demands.proofs.Told.{stands-at}
 
@@ -49,6 +50,8 @@ asking-begins-not TransceiverStandby e = refl
 asking-begins-not ControllersSleep e = refl
 asking-begins-not CheckWake e = refl
 asking-begins-not CheckWakeAgain e = refl
+asking-begins-not ResetStopped e = refl
+asking-begins-not ResetStarted e = refl
 
 -- a count that has risen is not 0
 risen-some : (t : ℕ) → false ≡ eqb 0 (risen t)
@@ -84,6 +87,7 @@ module _ (n : Network) (g : InRange n) (h : OwnHistory) (r : Ran n h) where
     stays-silent = refl;
     waits = λ wanted w d. refl;
     waits-on = λ t wanted w r. risen-some t;
+    resumes = λ wanted w d. refl;
     fills = λ step q f. refl;
     silences = λ step q. refl;
     goes-down = λ step o. rw (first-down-away (n .partial)) refl;
@@ -98,18 +102,19 @@ module _ (n : Network) (g : InRange n) (h : OwnHistory) (r : Ran n h) where
   passed (suc d) q l = rw (ne-eqb (firstRunning n q) (tally ticked q) (λ e. omega (arith, l, e))) (sym (and-false (ltb 0 (suc d))))
 
   -- q being what follows the last setback, with some tick, d the delay owed since
-  begins-by : (way : Way) (asked : Bool) (answers : List Heard) (count d w : ℕ) (q : OwnHistory) → 0 < tally ticked q
-      → Stands n way asked answers count q d w → isBeginning way ≡ ltb 0 d && eqb (firstRunning n q) (tally ticked q)
-  begins-by away asked answers count d w q l i = rw (i .delay) refl
-  begins-by (starting again) asked answers count d w q l i =
+  begins-by : (way : Way) (asked : Bool) (answers : List Heard) (count d w : ℕ) (q : OwnHistory) (x : Bool) → 0 < tally ticked q
+      → Stands n way asked answers count q d w x → isBeginning way ≡ ltb 0 d && eqb (firstRunning n q) (tally ticked q)
+  begins-by away asked answers count d w q x l i = rw (i .0 .delay) refl
+  begins-by stopping asked answers count d w q x l i = rw (i .0 .delay) refl
+  begins-by (starting cause) asked answers count d w q x l i =
       rw (i .none, ne-eqb 0 (tally ticked q) (λ e. omega (arith, e))) (sym (and-false (ltb 0 d)))
-  begins-by (delayed zero) asked answers count d w q l i =
+  begins-by (delayed zero) asked answers count d w q x l i =
       rw (lt-ltb 0 d (i .3), eq-eqb (firstRunning n q) (tally ticked q) (omega (arith, i .2))) refl
-  begins-by (delayed (suc t)) asked answers count d w q l i =
+  begins-by (delayed (suc t)) asked answers count d w q x l i =
       rw (ne-eqb 0 (suc t) (λ e. omega (arith, e)), ne-eqb (firstRunning n q) (tally ticked q) (λ e. omega (arith, i .2, e)))
       (sym (and-false (ltb 0 d)))
-  begins-by there asked answers count d w q l i = passed d q (i .1)
-  begins-by silenced asked answers count d w q l i = passed d q (i .1)
+  begins-by there asked answers count d w q x l i = passed d q (i .1)
+  begins-by silenced asked answers count d w q x l i = passed d q (i .1)
 
   -- the tick decides to wait exactly if the wait begins with it
   pub wait-begins : Distinct (controllersOf n) → Ran n (e ∷ h) → isWait m ≡ waitBegins n (e ∷ h)
@@ -129,4 +134,4 @@ module _ (n : Network) (g : InRange n) (h : OwnHistory) (r : Ran n h) where
           let after = tickAfter n s in
           let some : 0 < tally ticked (since (setback n) (e ∷ h)) = rw (since-by n e h false (shuts ∙ z)) (omega arith) in
           waits ∙ begins-by (wayOf (after .step)) (after .asked) (after .answers) (after .count) (owed n (e ∷ h)) (wantedAtTick (e ∷ h))
-          (since (setback n) (e ∷ h)) some (stands-at n g f (e ∷ h) now)
+          (since (setback n) (e ∷ h)) (afterStall n (e ∷ h)) some (stands-at n g f (e ∷ h) now)

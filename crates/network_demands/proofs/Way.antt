@@ -22,7 +22,8 @@ use Rattle.network.specs.Answers.{awaits, takesReport, answerOf}
 use Rattle.network.specs.Parts.{anAnswer}
 use Rattle.network_theorems.specs.Kept.{Kept}
 use Rattle.network_theorems.proofs.Moves.{full-quiet}
-use Rattle.network_demands.specs.Words.{Seen, OwnHistory, since, tally, ticked, setback, wantedAtTick, owed, askedToStart, runs, firstRunning}
+use Rattle.network_demands.specs.Words.{Seen, OwnHistory, since, tally, ticked, setback, wantedAtTick, owed, afterStall, askedToStart, runs}
+use Rattle.network_demands.specs.Words.{firstRunning}
 use Rattle.network_demands.proofs.Views.{seen, heardState, starts-asks}
 use Rattle.network_demands.proofs.Arrows.{first-down}
 use Rattle.network_demands.proofs.Handed.{eqb-same}
@@ -30,10 +31,18 @@ use Rattle.network_demands.proofs.Slots.{saidOkay, no-answer-yet, okay-
 use Rattle.network_demands.proofs.Running.{first-no-tick}
 
 -- ---- the way to full
--- away: not asked to start; starting, at first or again; the delay, with its tick count; there, said to be full; and where silent was wanted instead
+-- why the controllers are asked to start: the network comes up, or a bus-off or a stall came
+pub data Cause : Type 0 where
+  comingUp : Cause
+  busOff : Cause
+  stall : Cause
+
+-- away: not asked to start; stopping, after a stall; starting; the delay, with its tick count; there, said to be full; and where silent was wanted
+-- instead
 pub data Way : Type 0 where
   away : Way
-  starting : (again : Bool) → Way
+  stopping : Way
+  starting : (cause : Cause) → Way
   delayed : (ticks : ℕ) → Way
   there : Way
   silenced : Way
@@ -53,15 +62,28 @@ wayIn Phase.Full timer = there
 wayIn Phase.Recovering timer = delayed (counted timer)
 wayIn Phase.Silent timer = silenced
 wayIn Phase.Falling timer = away
+wayIn Phase.Resetting timer = stopping
+
+-- in one that does
+abbrev pub causeIn : Phase → Cause
+causeIn Phase.Off = comingUp
+causeIn Phase.Rising = comingUp
+causeIn Phase.Checking = comingUp
+causeIn Phase.Full = comingUp
+causeIn Phase.Recovering = busOff
+causeIn Phase.Silent = comingUp
+causeIn Phase.Falling = comingUp
+causeIn Phase.Resetting = stall
 
 -- by the step
 abbrev pub wayOf : Step → Way
-wayOf step = cond (asksToStart (asksFor step)) (starting (isUp step)) (wayIn (phaseOf step) (timerOf step))
+wayOf step = cond (asksToStart (asksFor step)) (starting (causeIn (phaseOf step))) (wayIn (phaseOf step) (timerOf step))
 
 -- only there full is told
 abbrev pub isThere : Way → Bool
 isThere away = false
-isThere (starting again) = false
+isThere stopping = false
+isThere (starting cause) = false
 isThere (delayed ticks) = false
 isThere there = true
 isThere silenced = false
@@ -69,7 +91,8 @@ isThere silenced = false
 -- where the delay begins
 abbrev pub isBeginning : Way → Bool
 isBeginning away = false
-isBeginning (starting again) = false
+isBeginning stopping = false
+isBeginning (starting cause) = false
 isBeginning (delayed ticks) = eqb 0 ticks
 isBeginning there = false
 isBeginning silenced = false
@@ -83,6 +106,18 @@ down-away Phase.Full timer e = absurd (true≢false e)
 down-away Phase.Recovering timer e = absurd (true≢false e)
 down-away Phase.Silent timer e = absurd (true≢false e)
 down-away Phase.Falling timer e = refl
+down-away Phase.Resetting timer e = absurd (true≢false e)
+
+-- and where it asks to start, it comes up
+pub down-comes-up : (phase : Phase) → upPhase phase ≡ false → causeIn phase ≡ comingUp
+down-comes-up Phase.Off e = refl
+down-comes-up Phase.Rising e = refl
+down-comes-up Phase.Checking e = refl
+down-comes-up Phase.Full e = refl
+down-comes-up Phase.Recovering e = absurd (true≢false e)
+down-comes-up Phase.Silent e = refl
+down-comes-up Phase.Falling e = refl
+down-comes-up Phase.Resetting e = absurd (true≢false e)
 
 -- and so is a step that is not up and does not ask the controllers to start
 pub way-away : (step : Step) → isUp step ≡ false → asksToStart (asksFor step) ≡ false → wayOf step ≡ away
@@ -101,6 +136,7 @@ full-phase-there Phase.Full timer = refl
 full-phase-there Phase.Recovering timer = refl
 full-phase-there Phase.Silent timer = refl
 full-phase-there Phase.Falling timer = refl
+full-phase-there Phase.Resetting timer = refl
 
 -- a step that asks the controllers to start is none of them
 pub starts-not-full : (step : Step) → asksToStart (asksFor step) ≡ true → isFullStep step ≡ false
@@ -125,18 +161,47 @@ to-start (Ask.Transceiver mode) e = absurd (false≢true e)
 to-start Ask.ClearWake e = absurd (false≢true e)
 to-start Ask.CheckWake e = absurd (false≢true e)
 
--- ---- where the network stands: s is what follows the last setback, d the delay owed since, w the mode wanted at the last tick
+-- ---- where the network stands: s is what follows the last setback, d the delay owed since, w the mode wanted at the last tick, x whether that
+-- setback was a stall
+-- only a bus-off brings a delay
+abbrev pub delayBy : Network → ℕ → Cause → ℕ
+delayBy n count comingUp = 0
+delayBy n count busOff = delayOf n count
+delayBy n count stall = 0
+
+abbrev pub isStallCause : Cause → Bool
+isStallCause comingUp = false
+isStallCause busOff = false
+isStallCause stall = true
+
+-- after a stall the controllers were asked to stop with one tick, and to start with a later one
+abbrev pub Late : Cause → ℕ → Type 0
+Late comingUp ticks = Unit
+Late busOff ticks = Unit
+Late stall ticks = 2 ≤ ticks
+
+-- the number of the first tick before which all can run
+abbrev pub soonest : Bool → ℕ
+soonest x = cond x 3 2
+
+pub not-first : (x : Bool) → 2 ≤ soonest x
+not-first true = omega arith
+not-first false = omega arith
+
 -- starting: asked exactly since the first tick of s; each controller was asked with it, and runs exactly if its last answer is ok
-pub record Starts (n : Network) (again asked : Bool) (answers : List Heard) (count : ℕ) (s : OwnHistory) (d : ℕ) : Type 0 where
+pub record Starts (n : Network) (cause : Cause) (asked : Bool) (answers : List Heard) (count : ℕ) (s : OwnHistory) (d : ℕ) (x : Bool) : Type 0 where
   pub none : firstRunning n s ≡ 0
-  pub delay : d ≡ cond again (delayOf n count) 0
+  pub delay : d ≡ delayBy n count cause
+  pub why : x ≡ isStallCause cause
+  pub late : Late cause (tally ticked s)
   pub sent : asked ≡ ltb 0 (tally ticked s)
   pub requested : (c : ℕ) → member c (controllersOf n) ≡ true → askedToStart c s ≡ asked
   pub answered : (c : ℕ) → member c (controllersOf n) ≡ true → runs c s ≡ saidOkay n answers c
 
--- afterwards: all run, since a tick that is not the first
-pub record Running (n : Network) (s : OwnHistory) : Type 0 where
+-- afterwards: all run, since a tick that is not the first, and after a stall not the second
+pub record Running (n : Network) (s : OwnHistory) (x : Bool) : Type 0 where
   pub all : (c : ℕ) → member c (controllersOf n) ≡ true → runs c s ≡ true
+  pub soon : soonest x ≤ firstRunning n s
   pub later : 2 ≤ firstRunning n s
 
 -- away no controller was asked to start, and no delay is owed
@@ -146,27 +211,30 @@ pub record Away (n : Network) (s : OwnHistory) (d : ℕ) : Type 0 where
   pub unasked : (c : ℕ) → member c (controllersOf n) ≡ true → askedToStart c s ≡ false
 
 -- by how far the network is on its way
-abbrev pub Stands : Network → Way → Bool → List Heard → ℕ → OwnHistory → ℕ → ℕ → Type 0
-Stands n away asked answers count s d w = Away n s d
-Stands n (starting again) asked answers count s d w = Starts n again asked answers count s d
-Stands n (delayed t) asked answers count s d w = Running n s × (d ≡ delayOf n count) × (tally ticked s ≡ firstRunning n s + t) × (t < d)
-Stands n there asked answers count s d w = Running n s × (firstRunning n s + d ≤ tally ticked s) × (eqb 2 w ≡ true)
-Stands n silenced asked answers count s d w = Running n s × (firstRunning n s + d ≤ tally ticked s) × (eqb 2 w ≡ false)
+abbrev pub Stands : Network → Way → Bool → List Heard → ℕ → OwnHistory → ℕ → ℕ → Bool → Type 0
+Stands n away asked answers count s d w x = Away n s d × (x ≡ false)
+Stands n stopping asked answers count s d w x = Away n s d × (x ≡ true) × (asked ≡ true → 0 < tally ticked s)
+Stands n (starting cause) asked answers count s d w x = Starts n cause asked answers count s d x
+Stands n (delayed t) asked answers count s d w x = Running n s x × (d ≡ delayOf n count) × (tally ticked s ≡ firstRunning n s + t) × (t < d)
+Stands n there asked answers count s d w x = Running n s x × (firstRunning n s + d ≤ tally ticked s) × (eqb 2 w ≡ true)
+Stands n silenced asked answers count s d w x = Running n s x × (firstRunning n s + d ≤ tally ticked s) × (eqb 2 w ≡ false)
 
 -- only a step that asks the controllers to start looks at their answers
 answers-aside : (n : Network) (phase : Phase) (timer : Timer) (asked : Bool) (answers answers′ : List Heard) (count : ℕ) (s : OwnHistory) (d w : ℕ)
-    → Stands n (wayIn phase timer) asked answers count s d w → Stands n (wayIn phase timer) asked answers′ count s d w
-answers-aside n Phase.Off timer asked answers answers′ count s d w i = i
-answers-aside n Phase.Rising timer asked answers answers′ count s d w i = i
-answers-aside n Phase.Checking timer asked answers answers′ count s d w i = i
-answers-aside n Phase.Full timer asked answers answers′ count s d w i = i
-answers-aside n Phase.Recovering timer asked answers answers′ count s d w i = i
-answers-aside n Phase.Silent timer asked answers answers′ count s d w i = i
-answers-aside n Phase.Falling timer asked answers answers′ count s d w i = i
+    (x : Bool) → Stands n (wayIn phase timer) asked answers count s d w x → Stands n (wayIn phase timer) asked answers′ count s d w x
+answers-aside n Phase.Off timer asked answers answers′ count s d w x i = i
+answers-aside n Phase.Rising timer asked answers answers′ count s d w x i = i
+answers-aside n Phase.Checking timer asked answers answers′ count s d w x i = i
+answers-aside n Phase.Full timer asked answers answers′ count s d w x i = i
+answers-aside n Phase.Recovering timer asked answers answers′ count s d w x i = i
+answers-aside n Phase.Silent timer asked answers answers′ count s d w x i = i
+answers-aside n Phase.Falling timer asked answers answers′ count s d w x i = i
+answers-aside n Phase.Resetting timer asked answers answers′ count s d w x i = i
 
 -- by its record and its history
 abbrev pub StandsAt : Network → State → OwnHistory → Type 0
-StandsAt n s h = Stands n (wayOf (s .step)) (s .asked) (s .answers) (s .count) (since (setback n) h) (owed n h) (wantedAtTick h)
+StandsAt n s h =
+    Stands n (wayOf (s .step)) (s .asked) (s .answers) (s .count) (since (setback n) h) (owed n h) (wantedAtTick h) (afterStall n h)
 
 -- ---- entries that are no tick
 -- one that hands out nothing and is no answer to the request to start
@@ -179,23 +247,28 @@ module _ (n : Network) (e : Seen) (s : OwnHistory) (t : ticked e ≡ false) (a :
   unfolding tally
   ticks-same = rw t refl
 
-  running-same : Running n s → Running n (e ∷ s)
-  running-same i = record { all = λ c m. r c m ∙ i .all c m; later = rw first-same (i .later) }
+  running-same : (x : Bool) → Running n s x → Running n (e ∷ s) x
+  running-same x i = record { all = λ c m. r c m ∙ i .all c m; soon = rw first-same (i .soon); later = rw first-same (i .later) }
 
-  pub stands-same : (way : Way) (asked : Bool) (answers : List Heard) (count d w : ℕ)
-      → Stands n way asked answers count s d w → Stands n way asked answers count (e ∷ s) d w
-  stands-same away asked answers count d w i =
-      record { none = first-same ∙ i .none; delay = i .delay; unasked = λ c m. a c ∙ i .unasked c m }
-  stands-same (starting again) asked answers count d w i = record {
+  away-same : (d : ℕ) → Away n s d → Away n (e ∷ s) d
+  away-same d i = record { none = first-same ∙ i .none; delay = i .delay; unasked = λ c m. a c ∙ i .unasked c m }
+
+  pub stands-same : (way : Way) (asked : Bool) (answers : List Heard) (count d w : ℕ) (x : Bool)
+      → Stands n way asked answers count s d w x → Stands n way asked answers count (e ∷ s) d w x
+  stands-same away asked answers count d w x i = (away-same d (i .0), i .1)
+  stands-same stopping asked answers count d w x i = (away-same d (i .0), i .1, λ z. rw ticks-same (i .2 z))
+  stands-same (starting cause) asked answers count d w x i = record {
     none = first-same ∙ i .none;
     delay = i .delay;
+    why = i .why;
+    late = rw ticks-same (i .late);
     sent = i .sent ∙ ap (ltb 0) (sym ticks-same);
     requested = λ c m. a c ∙ i .requested c m;
     answered = λ c m. r c m ∙ i .answered c m;
   }
-  stands-same (delayed ticks) asked answers count d w i = (running-same (i .0), i .1, rw (first-same, ticks-same) (i .2), i .3)
-  stands-same there asked answers count d w i = (running-same (i .0), rw (first-same, ticks-same) (i .1), i .2)
-  stands-same silenced asked answers count d w i = (running-same (i .0), rw (first-same, ticks-same) (i .1), i .2)
+  stands-same (delayed ticks) asked answers count d w x i = (running-same x (i .0), i .1, rw (first-same, ticks-same) (i .2), i .3)
+  stands-same there asked answers count d w x i = (running-same x (i .0), rw (first-same, ticks-same) (i .1), i .2)
+  stands-same silenced asked answers count d w x i = (running-same x (i .0), rw (first-same, ticks-same) (i .1), i .2)
 
 -- an answer that is taken is one to the request to start exactly in a step that asks that, and the step has asked
 taken-means : (s : State) (mode : ℕ) → takesReport s (Report.Controller mode) ≡ true
@@ -239,15 +312,18 @@ module _ (n : Network) (g : InRange n) (s : State) (k : Kept n s) (c mode ok : �
   unfolding runs
   other-answer d e = rw e refl
 
-  heard-starts : (again : Bool) (d : ℕ) → s .asked ≡ true → eqb 1 mode ≡ true → Starts n again (s .asked) (s .answers) (s .count) q d
-      → Starts n again (s .asked) (heardState n s c ok .answers) (s .count) (answering ∷ q) d
+  heard-starts : (cause : Cause) (d : ℕ) (x : Bool) → s .asked ≡ true → eqb 1 mode ≡ true
+      → Starts n cause (s .asked) (s .answers) (s .count) q d x
+      → Starts n cause (s .asked) (heardState n s c ok .answers) (s .count) (answering ∷ q) d x
   unfolding any tally
-  heard-starts again d a e i = record {
+  heard-starts cause d x a e i = record {
     none = first-no-tick n answering q refl ∙ i .none;
     delay = i .delay;
+    why = i .why;
+    late = i .late;
     sent = i .sent;
     requested = i .requested;
-    answered = λ x p. by-test x p (eqb x c) refl;
+    answered = λ y p. by-test y p (eqb y c) refl;
   }
     where
       by-test : (x : ℕ) → member x (controllersOf n) ≡ true → (b : Bool) → eqb x c ≡ b
@@ -257,11 +333,11 @@ module _ (n : Network) (g : InRange n) (s : State) (k : Kept n s) (c mode ok : �
           (own-answer ok l e (i .requested c m ∙ a) ∙ sym (okay-own n s g k c (heard (answerOf (eqb ok 1))) m))
       by-test x p false f = other-answer x f ∙ i .answered x p ∙ sym (okay-other n (s .answers) x c (heard (answerOf (eqb ok 1))) f p m)
 
-  pub heard-stands : takesReport s (Report.Controller mode) ≡ true → (d w : ℕ)
-      → Stands n (wayOf (s .step)) (s .asked) (s .answers) (s .count) q d w
-      → Stands n (wayOf (s .step)) (s .asked) (heardState n s c ok .answers) (s .count) (answering ∷ q) d w
+  pub heard-stands : takesReport s (Report.Controller mode) ≡ true → (d w : ℕ) (x : Bool)
+      → Stands n (wayOf (s .step)) (s .asked) (s .answers) (s .count) q d w x
+      → Stands n (wayOf (s .step)) (s .asked) (heardState n s c ok .answers) (s .count) (answering ∷ q) d w x
   unfolding any
-  heard-stands t d w = by-test (asksToStart (asksFor (s .step))) (taken-means s mode t .1)
+  heard-stands t d w x = by-test (asksToStart (asksFor (s .step))) (taken-means s mode t .1)
     where
       phase : Phase
       phase = phaseOf (s .step)
@@ -269,20 +345,33 @@ module _ (n : Network) (g : InRange n) (s : State) (k : Kept n s) (c mode ok : �
       timer : Timer
       timer = timerOf (s .step)
 
-      by-test : (b : Bool) → b ≡ eqb 1 mode → Stands n (cond b (starting (isUp (s .step))) (wayIn phase timer))
-          (s .asked) (s .answers) (s .count) q d w → Stands n (cond b (starting (isUp (s .step))) (wayIn phase timer))
-          (s .asked) (heardState n s c ok .answers) (s .count) (answering ∷ q) d w
-      by-test true e i = heard-starts (isUp (s .step)) d (taken-means s mode t .0) (sym e) i
+      by-test : (b : Bool) → b ≡ eqb 1 mode → Stands n (cond b (starting (causeIn phase)) (wayIn phase timer))
+          (s .asked) (s .answers) (s .count) q d w x → Stands n (cond b (starting (causeIn phase)) (wayIn phase timer))
+          (s .asked) (heardState n s c ok .answers) (s .count) (answering ∷ q) d w x
+      by-test true e i = heard-starts (causeIn phase) d x (taken-means s mode t .0) (sym e) i
       by-test false e i =
-          answers-aside n phase timer (s .asked) (s .answers) _ (s .count) (answering ∷ q) d w
-          (stands-same n answering q refl (λ x. refl) (λ x p. other-mode (sym e) x) (wayIn phase timer) (s .asked) (s .answers) (s .count) d w i)
+          answers-aside n phase timer (s .asked) (s .answers) _ (s .count) (answering ∷ q) d w x
+          (stands-same n answering q refl (λ y. refl) (λ y p. other-mode (sym e) y) (wayIn phase timer) (s .asked) (s .answers) (s .count) d w x i)
 
--- ---- bus-offs
+-- ---- bus-offs and stalls
 -- nothing was asked since, and no answer is kept
-pub anew : (n : Network) (again : Bool) (count d : ℕ) → d ≡ cond again (delayOf n count) 0 → Starts n again false blankAnswers count [] d
+pub anew : (n : Network) (cause : Cause) (count d : ℕ) → isStallCause cause ≡ false → d ≡ delayBy n count cause
+    → Starts n cause false blankAnswers count [] d false
 unfolding firstRunning tally any runs
-anew n again count d e =
-    record { none = refl; delay = e; sent = refl; requested = λ c m. refl; answered = λ c m. sym (no-answer-yet n c) }
+anew n cause count d z e = record {
+  none = refl;
+  delay = e;
+  why = sym z;
+  late = by-cause cause z;
+  sent = refl;
+  requested = λ c m. refl;
+  answered = λ c m. sym (no-answer-yet n c);
+}
+  where
+    by-cause : (cause : Cause) → isStallCause cause ≡ false → Late cause 0
+    by-cause comingUp e = tt
+    by-cause busOff e = tt
+    by-cause stall e = absurd (true≢false e)
 
 pub nothing-since : (n : Network) → Away n [] 0
 unfolding firstRunning any

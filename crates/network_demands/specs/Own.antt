@@ -6,6 +6,7 @@ use mathlib.Core.Bool.{Bool, true, false}
 use Rattle.lists.specs.Lists.{any}
 use Rattle.records.specs.declared.Record.{Record}
 use Rattle.settings.specs.declared.Network.{Network}
+use Rattle.steps.specs.declared.Step.{Step}
 use Rattle.steps.specs.declared.Move.{Move}
 use Rattle.steps.specs.Steps.{timerOf}
 use Rattle.steps.specs.Decision.{decision}
@@ -16,9 +17,9 @@ use Rattle.network.specs.declared.Part.{Part}
 use Rattle.network.specs.State.{heardOf, started}
 use Rattle.network.specs.Rules.{isRefusal, isDone, delayOf, reachedBy, outfitOf}
 use Rattle.network.specs.Moving.{afterMove}
-use Rattle.network.specs.BusOff.{hitOf, afterHit, hitRecords}
-use Rattle.network.specs.Parts.{Sight, aTick, aBusOff, anAnswer, aRequest, aReport, nothing, isTaken, taken, hitReply, requestPart, reportPart}
-use Rattle.network.specs.Parts.{answerPart}
+use Rattle.network.specs.BusOff.{hitOf, stallOf, afterHit, hitRecords}
+use Rattle.network.specs.Parts.{Sight, aTick, aBusOff, aStall, anAnswer, aRequest, aReport, nothing, isTaken, taken, hitReply, requestPart}
+use Rattle.network.specs.Parts.{reportPart, answerPart}
 use Rattle.network_demands.specs.Words.{Seen, OwnHistory}
 
 -- ---- the tick
@@ -44,7 +45,7 @@ tickAfter n s = afterMove n s (decides n s)
 abbrev pub tickHands : Network → State → List Record
 tickHands n s = moveRecords n (s .step) (s .told) (decides n s)
 
--- ---- the bus-off
+-- ---- the bus-off and the stall
 
 -- the record after a bus-off while up
 abbrev pub recovered : State → State
@@ -54,10 +55,19 @@ recovered s = afterHit s Hit.Recover
 abbrev pub restarted : State → State
 restarted s = afterHit s Hit.Restart
 
+-- what a stall does in a step
+abbrev pub stalls : Step → Hit
+stalls step = stallOf step
+
+-- the record after a stall that is taken
+abbrev pub resetAfter : State → State
+resetAfter s = afterHit s Hit.Reset
+
 -- by what the step makes of it
 abbrev pub hitAfter : State → Hit → State
 hitAfter s Hit.Recover = recovered s
 hitAfter s Hit.Restart = restarted s
+hitAfter s Hit.Reset = resetAfter s
 hitAfter s Hit.NotTaken = s
 
 -- ---- the part
@@ -66,6 +76,7 @@ hitAfter s Hit.NotTaken = s
 unfoldable pub played : Network → State → Sight → Part
 played n s aTick = taken (tickAfter n s)
 played n s aBusOff = record { reply = hitReply (hitOf (s .step)); state = hitAfter s (hitOf (s .step)) }
+played n s aStall = record { reply = hitReply (stalls (s .step)); state = hitAfter s (stalls (s .step)) }
 played n s (anAnswer controller mode ok) = answerPart n s controller mode ok
 played n s (aRequest mode) = requestPart s mode
 played n s (aReport report) = reportPart s report
@@ -75,6 +86,7 @@ played n s nothing = taken s
 unfoldable pub handed : Network → State → Sight → List Record
 handed n s aTick = tickHands n s
 handed n s aBusOff = hitRecords n (hitOf (s .step))
+handed n s aStall = hitRecords n (stalls (s .step))
 handed n s (anAnswer controller mode ok) = []
 handed n s (aRequest mode) = []
 handed n s (aReport report) = []
@@ -89,6 +101,7 @@ stateOf n (e ∷ h) = played n (stateOf n h) (e .sight) .state
 abbrev pub concerns : Sight → Bool
 concerns aTick = true
 concerns aBusOff = true
+concerns aStall = true
 concerns (anAnswer controller mode ok) = true
 concerns (aRequest mode) = true
 concerns (aReport report) = true

@@ -1,6 +1,6 @@
--- What the box promises of one network, entry by entry: e follows h, both as the network sees them. Which bus-offs, answers and requests are taken,
--- what is handed out on them, and what a tick hands out. All of it is read off calls, answers and records; nothing looks into the network's record
--- and nothing cites a rule of its steps.
+-- What the box promises of one network, entry by entry: e follows h, both as the network sees them. Which bus-offs, stalls, answers and requests are
+-- taken, what is handed out on them, and what a tick hands out. All of it is read off calls, answers and records; nothing looks into the network's
+-- record and nothing cites a rule of its steps.
 use Prim.Native.Nat.{ℕ, _+_, _≤_}
 use mathlib.Core.Path.{_≡_}
 use mathlib.Core.List.{List, [], _∷_, _++_}
@@ -14,9 +14,9 @@ use Rattle.settings.specs.declared.Transceiver.{Transceiver}
 use Rattle.settings.specs.declared.Network.{Network}
 use Rattle.settings.specs.Settings.{controllersOf, member}
 use Rattle.network.specs.declared.Report.{Report}
-use Rattle.network.specs.Parts.{Sight, aTick, aBusOff, anAnswer, aRequest, aReport, nothing}
+use Rattle.network.specs.Parts.{Sight, aTick, aBusOff, aStall, anAnswer, aRequest, aReport, nothing}
 use Rattle.network_demands.specs.Words.{Seen, OwnHistory, hands, since, tally, ticked, fell, shut, cleared, told, wanted, up, rested, on}
-use Rattle.network_demands.specs.Words.{isAnswerOn, setback, awaited, fellUp, owed, askedToStart, firstRunning}
+use Rattle.network_demands.specs.Words.{isStall, isAnswerOn, setback, awaited, fellUp, owed, afterStall, askedToStart, firstRunning}
 
 -- ---- bus-offs
 
@@ -30,10 +30,17 @@ pub record BusOffs (n : Network) (e : Seen) (h : OwnHistory) : Type 0 where
   pub records : fell e ≡ true → e .records ≡ cond (up n h) (fallRecords n) []
   pub accepted : fell e ≡ true → (c : ℕ) → member c (controllersOf n) ≡ true → e .accepted ≡ askedToStart c (since (shut n) h)
 
+-- ---- stalls
+
+-- X2, X5: a stall is taken exactly if full is told, and hands out 6 silent then and else nothing
+pub record Stalls (n : Network) (e : Seen) (h : OwnHistory) : Type 0 where
+  pub records : e .sight ≡ aStall → e .records ≡ cond (eqb 2 (told n h)) (handed 6 (n .handle) 1 ∷ []) []
+  pub accepted : e .sight ≡ aStall → e .accepted ≡ eqb 2 (told n h)
+
 -- ---- answers and reports
 
 -- A1 to A6: each is taken exactly if its numbers are in range and just that stands asked for: the last tick handed the request out, and no bus-off
--- was accepted since
+-- and no stall was accepted since
 pub record Answers (n : Network) (e : Seen) (h : OwnHistory) : Type 0 where
   pub controllers : (c mode ok : ℕ) → e .sight ≡ anAnswer c mode ok → member c (controllersOf n) ≡ true
       → e .accepted ≡ leb mode 2 && (leb ok 1 && awaited 1 c mode h)
@@ -72,6 +79,7 @@ isNormal Report.Checked = false
 abbrev pub saysNormal : Sight → Bool
 saysNormal aTick = false
 saysNormal aBusOff = false
+saysNormal aStall = false
 saysNormal (anAnswer controller mode ok) = false
 saysNormal (aRequest mode) = false
 saysNormal (aReport report) = isNormal report
@@ -108,13 +116,18 @@ pub record Prepared (n : Network) (h : OwnHistory) : Type 0 where
   pub stopped : (c : ℕ) → member c (controllersOf n) ≡ true → saidOk c 0 (sinceRest n h) ≡ true
   pub normal : (t : ℕ) → n .transceiver ≡ Transceiver.Present t → any reportedNormal (sinceRest n h) ≡ true
 
+-- since the last setback each controller's last answer on stopped is ok
+abbrev pub Stopped : Network → OwnHistory → Type 0
+Stopped n h = (c : ℕ) → member c (controllersOf n) ≡ true → saidOk c 0 (since (setback n) h) ≡ true
+
 -- a request to start goes out only by a tick at which the network is on and no is not wanted; the first since the last shutdown only to a network
--- that is prepared
+-- that is prepared; T29: the first since a stall that was the last setback only where each controller has stopped since
 pub record AsksToStart (n : Network) (c : ℕ) (e : Seen) (h : OwnHistory) : Type 0 where
   pub tick : ticked e ≡ true
   pub while-on : on n h ≡ true
   pub called : eqb 0 (wanted h) ≡ false
   pub prepared : askedToStart c (since (shut n) h) ≡ false → Prepared n h
+  pub stopped : afterStall n h ≡ true → askedToStart c (since (setback n) h) ≡ false → Stopped n h
 
 -- H5 to H12: the highest argument that a record of a kind has
 abbrev pub highest : ℕ → ℕ
@@ -124,7 +137,7 @@ highest kind = getD (0 ∷ 2 ∷ 1 ∷ 1 ∷ 0 ∷ 0 ∷ 2 ∷ 3 ∷ 1 ∷ []) k
 abbrev pub waitBegins : Network → OwnHistory → Bool
 waitBegins n h = ltb 0 (owed n h) && eqb (firstRunning n (since (setback n) h)) (tally ticked (since (setback n) h))
 
--- what a tick hands out, and that else only a bus-off hands out anything
+-- what a tick hands out, and that else only a bus-off and a stall hand out anything
 pub record Ticks (n : Network) (e : Seen) (h : OwnHistory) : Type 0 where
   -- where full was told, a tick leaves it so exactly if full is wanted
   pub stays-full : ticked e ≡ true → told n h ≡ 2 → eqb 2 (told n (e ∷ h)) ≡ eqb 2 (wanted h)
@@ -153,6 +166,7 @@ pub record Ticks (n : Network) (e : Seen) (h : OwnHistory) : Type 0 where
   pub starts : (c : ℕ) → hands 1 c 1 e ≡ true → AsksToStart n c e h
   -- no record has an argument above those of its kind
   pub known : any (λ (r : Record). ltb (highest (r .kind)) (r .argument)) (e .records) ≡ false
-  -- a tick hands out at most two records more than the network has controllers, and what is neither a tick nor a bus-off hands out none
+  -- a tick hands out at most two records more than the network has controllers, and what is neither a tick, a bus-off nor a
+  -- stall hands out none
   pub few : ticked e ≡ true → length (e .records) ≤ n .count + 2
-  pub none : ticked e ≡ false → fell e ≡ false → e .records ≡ []
+  pub none : ticked e ≡ false → fell e ≡ false → isStall (e .sight) ≡ false → e .records ≡ []

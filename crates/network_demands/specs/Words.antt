@@ -9,7 +9,7 @@ use Rattle.lists.specs.Lists.{any, every}
 use Rattle.records.specs.declared.Record.{Record}
 use Rattle.settings.specs.declared.Network.{Network}
 use Rattle.settings.specs.Settings.{controllersOf, member}
-use Rattle.network.specs.Parts.{Sight, aTick, aBusOff, anAnswer, aRequest, aReport, nothing}
+use Rattle.network.specs.Parts.{Sight, aTick, aBusOff, aStall, anAnswer, aRequest, aReport, nothing}
 
 -- ---- histories of one network
 
@@ -55,6 +55,7 @@ tally p (e ∷ h) = cond (p e) (suc (tally p h)) (tally p h)
 abbrev pub isTick : Sight → Bool
 isTick aTick = true
 isTick aBusOff = false
+isTick aStall = false
 isTick (anAnswer controller mode ok) = false
 isTick (aRequest mode) = false
 isTick (aReport report) = false
@@ -64,15 +65,27 @@ isTick nothing = false
 abbrev pub isBusOff : Sight → Bool
 isBusOff aTick = false
 isBusOff aBusOff = true
+isBusOff aStall = false
 isBusOff (anAnswer controller mode ok) = false
 isBusOff (aRequest mode) = false
 isBusOff (aReport report) = false
 isBusOff nothing = false
 
+-- a stall of its sending
+abbrev pub isStall : Sight → Bool
+isStall aTick = false
+isStall aBusOff = false
+isStall aStall = true
+isStall (anAnswer controller mode ok) = false
+isStall (aRequest mode) = false
+isStall (aReport report) = false
+isStall nothing = false
+
 -- an answer of a controller to the request for a mode, with this ok value
 abbrev pub isAnswerOn : ℕ → ℕ → ℕ → Sight → Bool
 isAnswerOn c mode value aTick = false
 isAnswerOn c mode value aBusOff = false
+isAnswerOn c mode value aStall = false
 isAnswerOn c mode value (anAnswer controller asked ok) = eqb c controller && (eqb mode asked && eqb value ok)
 isAnswerOn c mode value (aRequest asked) = false
 isAnswerOn c mode value (aReport report) = false
@@ -86,6 +99,7 @@ isAnswer c value sight = isAnswerOn c 1 value sight
 abbrev pub wantedBy : Sight → ℕ → ℕ
 wantedBy aTick before = before
 wantedBy aBusOff before = before
+wantedBy aStall before = before
 wantedBy (anAnswer controller mode ok) before = before
 wantedBy (aRequest mode) before = mode
 wantedBy (aReport report) before = before
@@ -101,6 +115,10 @@ ticked e = isTick (e .sight)
 abbrev pub fell : Seen → Bool
 fell e = isBusOff (e .sight)
 
+-- a stall of the network that was accepted
+abbrev pub stalled : Seen → Bool
+stalled e = isStall (e .sight) && e .accepted
+
 -- T26: a shutdown begins, which 7 no says
 abbrev pub shut : Network → Seen → Bool
 shut n e = hands 7 (n .handle) 0 e
@@ -109,9 +127,9 @@ shut n e = hands 7 (n .handle) 0 e
 abbrev pub cleared : Network → Seen → Bool
 cleared n e = hands 8 (n .handle) 0 e
 
--- a bus-off of the network or the beginning of its shutdown: what a controller answered before it no longer counts
+-- a bus-off of the network, an accepted stall, or the beginning of its shutdown: what a controller answered before it no longer counts
 abbrev pub setback : Network → Seen → Bool
-setback n e = fell e || shut n e
+setback n e = fell e || (stalled e || shut n e)
 
 -- ---- the mode last told by kind 6; no, where none was told
 
@@ -151,11 +169,11 @@ calledUp n (e ∷ h) = cond (hands 6 (n .handle) 0 e) false ((ticked e && eqb 2 
 abbrev pub on : Network → OwnHistory → Bool
 on n h = rested n h && calledUp n h
 
--- the last tick handed out such a record, and no bus-off was accepted since
+-- the last tick handed out such a record, and no bus-off and no stall was accepted since
 unfoldable pub awaited : ℕ → ℕ → ℕ → OwnHistory → Bool
 awaited kind target argument [] = false
 awaited kind target argument (e ∷ h) =
-    cond (ticked e) (hands kind target argument e) (cond (fell e && e .accepted) false (awaited kind target argument h))
+    cond (ticked e) (hands kind target argument e) (cond ((fell e && e .accepted) || stalled e) false (awaited kind target argument h))
 
 -- the mode that was wanted at the last tick; no where there was none
 unfoldable pub wantedAtTick : OwnHistory → ℕ
@@ -177,10 +195,17 @@ falls n (e ∷ h) = cond (cleared n e) 0 (cond (fellUp n e h) (suc (falls n h)) 
 abbrev pub delayAt : Network → OwnHistory → ℕ
 delayAt n h = cond (ltb (n .threshold) (falls n h)) (n .long) (n .short)
 
--- the delay that is owed since the last bus-off or shutdown: that of a bus-off while up, and else none
+-- the delay that is owed since the last setback: that of a bus-off while up, and else none
 unfoldable pub owed : Network → OwnHistory → ℕ
 owed n [] = 0
 owed n (e ∷ h) = cond (setback n e) (cond (fellUp n e h) (delayAt n (e ∷ h)) 0) (owed n h)
+
+-- ---- stalls
+
+-- the last setback was a stall
+unfoldable pub afterStall : Network → OwnHistory → Bool
+afterStall n [] = false
+afterStall n (e ∷ h) = cond (setback n e) (stalled e) (afterStall n h)
 
 -- ---- a controller runs: its last answer to the request to start is ok, and it was asked before
 
@@ -206,7 +231,7 @@ firstRunning n (e ∷ h) = cond (ltb 0 (firstRunning n h)) (firstRunning n h) (c
 
 -- ---- exactly when a network is said to be full, and exactly when it is told no
 
--- full is due after h, of which s is what follows the last bus-off or shutdown: there was a tick before which every controller runs, as many ticks
+-- full is due after h, of which s is what follows the last setback: there was a tick before which every controller runs, as many ticks
 -- as the delay came after that one, and full was wanted at the last tick
 abbrev pub duly : Network → ℕ → OwnHistory → OwnHistory → Bool
 duly n delay s h = ltb 0 (firstRunning n s) && (leb (firstRunning n s + delay) (tally ticked s) && eqb 2 (wantedAtTick h))
@@ -220,7 +245,7 @@ abbrev pub ToldNo : Network → OwnHistory → Type 0
 ToldNo n h = eqb 0 (told n h) ≡ not (any (hands 6 (n .handle) 2) (since (hands 6 (n .handle) 0) h))
 
 -- ---- demand 3, first sentence: in a network that is said to be full each controller was asked to start and its last answer says that it runs, both
--- since the latest of the start, the last bus-off and the last shutdown
+-- since the latest of the start, the last bus-off, the last accepted stall and the last shutdown
 abbrev pub Answered : Network → OwnHistory → Type 0
 Answered n h = told n h ≡ 2 → (c : ℕ) → member c (controllersOf n) ≡ true → runs c (since (setback n) h) ≡ true
 
@@ -232,11 +257,11 @@ abbrev pub Delayed : Network → OwnHistory → Seen → OwnHistory → Type 0
 Delayed n s b h =
     fellUp n b h ≡ true → never fell s → never (shut n) s → told n (s ++ (b ∷ h)) ≡ 2 → delayAt n (b ∷ h) + 2 ≤ tally ticked s
 
--- however late the answers are: if b came while up, and s has no further bus-off and no shutdown, then full is told exactly if it is due; the tick
--- before which every controller runs is never the first
+-- however late the answers are: if b came while up, and s has no further bus-off, no stall and no shutdown, then full is told exactly if it is due;
+-- the tick before which every controller runs is never the first
 abbrev pub LateAnswers : Network → OwnHistory → Seen → OwnHistory → Type 0
 LateAnswers n s b h =
-    fellUp n b h ≡ true → never fell s → never (shut n) s
+    fellUp n b h ≡ true → never fell s → never stalled s → never (shut n) s
     → (eqb 2 (told n (s ++ (b ∷ h))) ≡ duly n (delayAt n (b ∷ h)) s (s ++ (b ∷ h))) × (eqb 1 (firstRunning n s) ≡ false)
 
 -- ---- third sentence: where conditions are good, that tick is the one that tells full
@@ -246,26 +271,27 @@ unfoldable pub fullAtTicks : OwnHistory → OwnHistory → Bool
 fullAtTicks [] h = true
 fullAtTicks (e ∷ s) h = cond (ticked e) (eqb 2 (wanted (s ++ h))) true && fullAtTicks s h
 
--- a request to start stands unanswered: no call says ok to it
-unfoldable pub waiting : ℕ → OwnHistory → Bool
-waiting c [] = false
-waiting c (e ∷ h) = cond (hands 1 c 1 e) true (cond (isAnswer c 1 (e .sight)) false (waiting c h))
+-- a request for a mode stands unanswered: no call says ok to it
+unfoldable pub waiting : ℕ → ℕ → OwnHistory → Bool
+waiting mode c [] = false
+waiting mode c (e ∷ h) = cond (hands 1 c mode e) true (cond (isAnswerOn c mode 1 (e .sight)) false (waiting mode c h))
 
--- every request to start is answered before the next tick
-unfoldable pub promptly : Network → OwnHistory → Bool
-promptly n [] = true
-promptly n (e ∷ h) = cond (ticked e) (not (any (λ (c : ℕ). waiting c h) (controllersOf n))) true && promptly n h
+-- every request for the mode is answered before the next tick
+unfoldable pub promptly : ℕ → Network → OwnHistory → Bool
+promptly mode n [] = true
+promptly mode n (e ∷ h) = cond (ticked e) (not (any (λ (c : ℕ). waiting mode c h) (controllersOf n))) true && promptly mode n h
 
--- a controller of the network answers the request to start with not ok
-abbrev pub saysNo : Network → Seen → Bool
-saysNo n e = any (λ (c : ℕ). isAnswer c 0 (e .sight) && e .accepted) (controllersOf n)
+-- a controller of the network answers the request for the mode with not ok
+abbrev pub saysNo : ℕ → Network → Seen → Bool
+saysNo mode n e = any (λ (c : ℕ). isAnswerOn c mode 0 (e .sight) && e .accepted) (controllersOf n)
 
--- the good conditions: s follows the bus-off at the head of h
+-- the good conditions: s follows the bus-off at the head of h; every request to start is answered promptly, and only with ok
 pub record GoodConditions (n : Network) (s h : OwnHistory) : Type 0 where
   pub full : fullAtTicks s h ≡ true
-  pub prompt : promptly n s ≡ true
-  pub only-ok : never (saysNo n) s
+  pub prompt : promptly 1 n s ≡ true
+  pub only-ok : never (saysNo 1 n) s
   pub calm : never fell s
+  pub unstalled : never stalled s
 
 -- a tick t tells full exactly if it is the one numbered delay plus two after the bus-off b
 abbrev pub OnJustThatTick : Network → Seen → OwnHistory → Seen → OwnHistory → Type 0
@@ -277,3 +303,28 @@ OnJustThatTick n t s b h =
 abbrev pub SaidFrom : Network → OwnHistory → Seen → OwnHistory → Type 0
 SaidFrom n s b h =
     fellUp n b h ≡ true → GoodConditions n s (b ∷ h) → told n (s ++ (b ∷ h)) ≡ cond (leb (delayAt n (b ∷ h) + 2) (tally ticked s)) 2 1
+
+-- ---- after a stall: the history is s after the stall b after h
+
+-- however late the answers are: if s has no bus-off, no further stall and no shutdown, then full is told exactly if it is due, without a delay; the
+-- tick before which every controller runs is never one of the first two
+abbrev pub LateAfterStall : Network → OwnHistory → Seen → OwnHistory → Type 0
+LateAfterStall n s b h =
+    stalled b ≡ true → never fell s → never stalled s → never (shut n) s
+    → (eqb 2 (told n (s ++ (b ∷ h))) ≡ duly n 0 s (s ++ (b ∷ h))) × (ltb 0 (firstRunning n s) ≡ leb 3 (firstRunning n s))
+
+-- the good conditions: s follows the stall at the head of h; every request to stop is answered promptly too, and only with ok
+pub record GoodReset (n : Network) (s h : OwnHistory) : Type 0 where
+  pub good : GoodConditions n s h
+  pub prompt : promptly 0 n s ≡ true
+  pub only-ok : never (saysNo 0 n) s
+
+-- a tick t tells full exactly if it is the third after the stall b
+abbrev pub OnTheThirdTick : Network → Seen → OwnHistory → Seen → OwnHistory → Type 0
+OnTheThirdTick n t s b h =
+    stalled b ≡ true → GoodReset n (t ∷ s) (b ∷ h) → ticked t ≡ true → hands 6 (n .handle) 2 t ≡ eqb 3 (tally ticked (t ∷ s))
+
+-- the same by the mode last told: silent up to that tick, full from it on
+abbrev pub SaidFromTheThird : Network → OwnHistory → Seen → OwnHistory → Type 0
+SaidFromTheThird n s b h =
+    stalled b ≡ true → GoodReset n s (b ∷ h) → told n (s ++ (b ∷ h)) ≡ cond (leb 3 (tally ticked s)) 2 1

@@ -68,7 +68,7 @@ told-fits done = record {
   enters = λ step next wanted a u f told partial e. e ∙ sym f;
 }
 
--- ---- wanted: silent only in steps 4 to 8
+-- ---- wanted: silent only in up steps
 abbrev WantedFits : Step → Mode → Move → Type 0
 WantedFits step wanted m =
     (partial : Bool) → (wanted ≡ Mode.Silent → isUp step ≡ true) → wanted ≡ Mode.Silent → isUp (stepAfter m step partial) ≡ true
@@ -181,6 +181,14 @@ hit-kept n s Hit.Recover k = record {
 hit-kept n s Hit.Restart k = record {
   told = k .told;
   wanted = k .wanted;
+  asked = λ f. refl;
+  answers = λ f. refl;
+  reported = λ f. refl;
+  slots = blank-slots (n .count);
+}
+hit-kept n s Hit.Reset k = record {
+  told = refl;
+  wanted = λ f. refl;
   asked = λ f. refl;
   answers = λ f. refl;
   reported = λ f. refl;

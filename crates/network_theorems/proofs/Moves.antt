@@ -5,6 +5,7 @@ use Rattle.steps.specs.declared.Step.{Step}
 use Rattle.steps.specs.declared.Step.the-variants.{NoCommunication, TransceiverNormal, ControllersStopped, ControllersStarted}
 use Rattle.steps.specs.declared.Step.the-variants.{Checking, Full, Restarting, Waiting, Silent}
 use Rattle.steps.specs.declared.Step.the-variants.{ClearWake, DownStopped, TransceiverStandby, ControllersSleep, CheckWake, CheckWakeAgain}
+use Rattle.steps.specs.declared.Step.the-variants.{ResetStopped, ResetStarted}
 use Rattle.steps.specs.declared.Phase.{Phase}
 use Rattle.steps.specs.declared.Outfit.{Outfit}
 use Rattle.steps.specs.declared.Outfit.the-variants.{Bare, Fitted, Partial}
@@ -25,17 +26,17 @@ pub record ByMove (done : Bool) (P : Step → Mode → Move → Type 0) : Type 0
   pub passes : (step : Step) (wanted : Mode) → Quiet step → isFullStep step ≡ true → P step wanted Pass
   -- 7 and 8
   pub fills : (step : Step) (wanted : Mode) → Unsaid step → P step wanted EnterFull
-  -- 3
+  -- 3 and 16
   pub starts : (step : Step) (wanted : Mode) → done ≡ true → asksToStart (asksFor step) ≡ true → P step wanted EnterFull
-  -- 4, 5 and 7
-  pub silences : (step : Step) (wanted : Mode) → Quiet step → P step wanted EnterSilent
+  -- 4, 5, 7 and 16
+  pub silences : (step : Step) (wanted : Mode) → isUp step ≡ true → P step wanted EnterSilent
   -- 6
   pub waits : (step : Step) (wanted : Mode) → done ≡ true → asksToStart (asksFor step) ≡ true → phaseOf step ≡ Phase.Recovering → P step wanted Wait
-  -- 1 to 8
+  -- 1 to 8, 15 and 16
   pub goes-down : (step : Step) → isOn step ≡ true → P step Mode.No GoDown
   -- the last down step
   pub ends : (step : Step) (wanted : Mode) → isUp step ≡ false → P step wanted EnterNoCommunication
-  -- coming up and going down: from an asking step, or from 0, to the next
+  -- coming up, going down and in a reset: from an asking step, or from 0, to the next
   pub enters : (step next : Step) (wanted : Mode) → isAsking next ≡ true → isUp next ≡ isUp step → isFullStep next ≡ isFullStep step
       → P step wanted (Enter next)
 
@@ -81,15 +82,15 @@ module _ (P : Step → Mode → Move → Type 0) (done : Bool) (by : ByMove done
   ruled (Checking t) wanted refused reached outfit =
       let quiet : Quiet (Checking t) = record { up = refl; quiet = refl } in
       let checked = either reached _ _ (by .passes _ wanted quiet refl) (by .counts _ _ wanted quiet (record { up = refl; quiet = refl }) refl) in
-      by-mode wanted _ _ _ checked (by .silences _ _ quiet) checked
+      by-mode wanted _ _ _ checked (by .silences _ _ refl) checked
   ruled Full wanted refused reached outfit =
-      by-mode wanted _ _ _ (by .stays _ _) (by .silences _ _ (record { up = refl; quiet = refl })) (by .stays _ _)
+      by-mode wanted _ _ _ (by .stays _ _) (by .silences _ _ refl) (by .stays _ _)
   ruled Restarting wanted refused reached outfit = when-done _ _ _ refl (λ d. by .waits _ _ d refl refl)
   ruled (Waiting t) wanted refused reached outfit =
       let quiet : Quiet (Waiting t) = record { up = refl; quiet = refl } in
       let unsaid : Unsaid (Waiting t) = record { up = refl; quiet = refl; unsaid = refl } in
       either reached _ _
-      (by-mode wanted _ _ _ (by .fills _ _ unsaid) (by .silences _ _ quiet) (by .fills _ _ unsaid))
+      (by-mode wanted _ _ _ (by .fills _ _ unsaid) (by .silences _ _ refl) (by .fills _ _ unsaid))
       (by .counts _ _ _ quiet (record { up = refl; quiet = refl }) refl)
   ruled Silent wanted refused reached outfit =
       by-mode wanted _ _ _ (by .stays _ _) (by .stays _ _) (by .fills _ _ (record { up = refl; quiet = refl; unsaid = refl }))
@@ -107,6 +108,9 @@ module _ (P : Step → Mode → Move → Type 0) (done : Bool) (by : ByMove done
       when-done _ _ _ refl (λ d. by-partial outfit _ _ (by .stays _ _) (by .ends _ _ refl))
   ruled CheckWakeAgain wanted refused reached outfit =
       when-done _ _ _ refl (λ d. by-partial outfit _ _ (by .stays _ _) (by .enters _ _ _ refl refl refl))
+  ruled ResetStopped wanted refused reached outfit = when-done _ _ _ refl (λ d. by .enters _ _ _ refl refl refl)
+  ruled ResetStarted wanted refused reached outfit =
+      when-done _ _ _ refl (λ d. by-mode wanted _ _ _ (by .starts _ _ d refl) (by .silences _ _ refl) (by .starts _ _ d refl))
 
   -- ---- the decision
   first-down : (step : Step) (test : Bool) (x : Move) → isOn step ≡ test → P step Mode.No x → P step Mode.No (cond test GoDown x)
@@ -138,3 +142,5 @@ full-quiet TransceiverStandby e = absurd (false≢true e)
 full-quiet ControllersSleep e = absurd (false≢true e)
 full-quiet CheckWake e = absurd (false≢true e)
 full-quiet CheckWakeAgain e = absurd (false≢true e)
+full-quiet ResetStopped e = absurd (false≢true e)
+full-quiet ResetStarted e = absurd (false≢true e)

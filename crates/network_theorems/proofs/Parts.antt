@@ -8,7 +8,7 @@ use Rattle.records.specs.declared.Record.{Record}
 use Rattle.records.specs.Records.{modeNumber, byNamed}
 use Rattle.settings.specs.declared.Network.{Network}
 use Rattle.settings.specs.Good.{InRange}
-use Rattle.steps.specs.Steps.{asksFor, asksToStart, isUp}
+use Rattle.steps.specs.Steps.{asksFor, asksToStart, isUp, isFullStep}
 use Rattle.handing.specs.Handing.{ownRecord}
 use Rattle.network.specs.declared.Hit.{Hit}
 use Rattle.network.specs.declared.Part.{Part}
@@ -17,9 +17,9 @@ use Rattle.network.specs.declared.Report.{Report}
 use Rattle.network.specs.declared.State.{State}
 use Rattle.network.specs.State.{wants, mayWant}
 use Rattle.network.specs.Answers.{takesReport, afterAnswer}
-use Rattle.network.specs.BusOff.{hitOf, afterHit, hitRecords}
-use Rattle.network.specs.Parts.{Sight, aTick, aBusOff, anAnswer, aRequest, aReport, nothing, isTaken, taken, declined, wantedPart, requestPart}
-use Rattle.network.specs.Parts.{outOfRange, takenPart, reportPart, answerPart, hitPart, partOf, recordsOf}
+use Rattle.network.specs.BusOff.{hitOf, stallOf, afterHit, hitRecords}
+use Rattle.network.specs.Parts.{Sight, aTick, aBusOff, aStall, anAnswer, aRequest, aReport, nothing, isTaken, taken, declined, wantedPart}
+use Rattle.network.specs.Parts.{requestPart, outOfRange, takenPart, reportPart, answerPart, hitPart, partOf, recordsOf}
 use Rattle.network_theorems.specs.Kept.{Kept}
 use Rattle.network_theorems.proofs.Theorems.{tick-own, hit-own}
 use Rattle.network_theorems.proofs.Kept.{tick-kept, want-kept, hit-kept, answer-kept, report-kept}
@@ -30,6 +30,12 @@ pub by-hit : (s : State) (Q : Hit → Type 0) → (isUp (s .step) ≡ true → Q
     ≡ true → Q Hit.Restart) → (isUp (s .step) ≡ false → asksToStart (asksFor (s .step)) ≡ false → Q Hit.NotTaken) → Q (hitOf (s .step))
 unfolding hitOf
 by-hit s Q up starting neither = split Q (isUp (s .step)) up (λ u. split Q (asksToStart (asksFor (s .step))) (starting u) (neither u))
+
+-- a stall
+pub by-stall : (s : State) (Q : Hit → Type 0) → (isFullStep (s .step) ≡ true → Q Hit.Reset) → (isFullStep (s .step) ≡ false → Q Hit.NotTaken)
+    → Q (stallOf (s .step))
+unfolding stallOf
+by-stall s Q full not = split Q (isFullStep (s .step)) full not
 
 module _ (s : State) (Q : Part → Type 0) where
   -- a request for a mode that is one of three
@@ -65,17 +71,20 @@ module _ (s : State) (Q : Part → Type 0) where
 abbrev None : Type 0
 None = _≡_ {A = List Record} [] []
 
+hit-stays : (n : Network) (s : State) (hit : Hit) → isTaken (hitPart s hit .reply) ≡ false → (hitPart s hit .state ≡ s) × (hitRecords n hit ≡ [])
+unfolding hitPart afterHit hitRecords
+hit-stays n s Hit.Recover e = absurd (true≢false e)
+hit-stays n s Hit.Restart e = absurd (true≢false e)
+hit-stays n s Hit.Reset e = absurd (true≢false e)
+hit-stays n s Hit.NotTaken e = (refl, refl)
+
 -- a refusal keeps the record and hands out nothing
 pub refused-stays : (n : Network) (s : State) (sight : Sight) →
     isTaken (partOf n s sight .reply) ≡ false → (partOf n s sight .state ≡ s) × (recordsOf n s sight ≡ [])
-unfolding partOf recordsOf reportPart hitPart afterHit hitRecords
+unfolding partOf recordsOf reportPart
 refused-stays n s aTick e = absurd (true≢false e)
-refused-stays n s aBusOff e = by-hit-kind (hitOf (s .step)) e
-  where
-    by-hit-kind : (hit : Hit) → isTaken (hitPart s hit .reply) ≡ false → (hitPart s hit .state ≡ s) × (hitRecords n hit ≡ [])
-    by-hit-kind Hit.Recover e = absurd (true≢false e)
-    by-hit-kind Hit.Restart e = absurd (true≢false e)
-    by-hit-kind Hit.NotTaken e = (refl, refl)
+refused-stays n s aBusOff e = hit-stays n s (hitOf (s .step)) e
+refused-stays n s aStall e = hit-stays n s (stallOf (s .step)) e
 refused-stays n s (anAnswer c mode ok) e =
     by-answer s (λ part. isTaken (part .reply) ≡ false → (part .state ≡ s) × None) n c mode ok
     (λ _ _ e. absurd (true≢false e)) (λ _ _. (refl, refl)) (λ _ _. (refl, refl)) (λ _ _. (refl, refl)) e
@@ -92,6 +101,7 @@ pub part-kept : (n : Network) (s : State) → InRange n → Kept n s → (sight 
 unfolding partOf reportPart hitPart
 part-kept n s g k aTick = tick-kept n s k
 part-kept n s g k aBusOff = hit-kept n s (hitOf (s .step)) k
+part-kept n s g k aStall = hit-kept n s (stallOf (s .step)) k
 part-kept n s g k (anAnswer c mode ok) =
     by-answer s (λ part. Kept n (part .state)) n c mode ok (λ _ e. answer-kept n s c mode (eqb ok 1) g e k) (λ _. k) (λ _. k) (λ _. k)
 part-kept n s g k (aRequest mode) = by-request s (λ part. Kept n (part .state)) mode (λ w _ e. want-kept n s w e k) k k
@@ -103,6 +113,7 @@ pub part-own : (n : Network) (s : State) (sight : Sight) → every (ownRecord n)
 unfolding recordsOf every any
 part-own n s aTick = tick-own n s
 part-own n s aBusOff = hit-own n (hitOf (s .step))
+part-own n s aStall = hit-own n (stallOf (s .step))
 part-own n s (anAnswer c mode ok) = refl
 part-own n s (aRequest mode) = refl
 part-own n s (aReport report) = refl

@@ -10,7 +10,7 @@ use Rattle.steps.specs.declared.Step.{Step}
 use Rattle.steps.specs.declared.Move.{Move}
 use Rattle.steps.specs.Steps.{isFullStep}
 use Rattle.handing.specs.Handing.{ownRecord}
-use Rattle.handing.proofs.Laws.{length-move, move-own, recovery-own}
+use Rattle.handing.proofs.Laws.{length-move, move-own, recovery-own, reset-own}
 use Rattle.network.specs.declared.Hit.{Hit}
 use Rattle.network.specs.declared.State.{State}
 use Rattle.network.specs.State.{blankAnswers}
@@ -34,11 +34,12 @@ pub tick-own : (n : Network) (s : State) → every (ownRecord n) (tickRecords n 
 unfolding tickRecords
 tick-own n s = move-own n (s .step) (s .told) (moveOf n s)
 
--- and so does every record of a bus-off
+-- and so does every record of a bus-off or a stall
 pub hit-own : (n : Network) (hit : Hit) → every (ownRecord n) (hitRecords n hit) ≡ true
 unfolding hitRecords every Rattle.lists.specs.Lists.any
 hit-own n Hit.Recover = recovery-own n
 hit-own n Hit.Restart = refl
+hit-own n Hit.Reset = reset-own n
 hit-own n Hit.NotTaken = refl
 
 -- ---- told and wanted
@@ -86,3 +87,12 @@ recovery-forgets s = (refl, refl)
 pub restart-forgets : (s : State) → (afterHit s Hit.Restart .answers ≡ blankAnswers) × (afterHit s Hit.Restart .asked ≡ false)
 unfolding afterHit madeAnew
 restart-forgets s = (refl, refl)
+
+-- X3, X4: after a stall that is taken they are blank, and the step has not asked; the count and the wanted mode stay
+pub reset-forgets : (s : State) → (afterHit s Hit.Reset .answers ≡ blankAnswers) × (afterHit s Hit.Reset .asked ≡ false)
+unfolding afterHit madeAnew
+reset-forgets s = (refl, refl)
+
+pub reset-keeps : (s : State) → (afterHit s Hit.Reset .count ≡ s .count) × (afterHit s Hit.Reset .wanted ≡ s .wanted)
+unfolding afterHit madeAnew
+reset-keeps s = (refl, refl)

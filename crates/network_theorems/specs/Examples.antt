@@ -1,5 +1,5 @@
 -- Examples of the rules of the tick, by computation on the definitions: at least one for each rule, as one list under one statement. A case is a
--- network, its record, what a tick hands out and the record after it. The rules N11, N12, T3 to T25 and T28 of docs/RULES.md.
+-- network, its record, what a tick hands out and the record after it. The rules N11, N12, T3 to T25 and T28 to T30 of docs/RULES.md.
 use Prim.Native.Nat.{ℕ}
 use mathlib.Core.Path.{_≡_, refl}
 use mathlib.Core.List.{List, [], _∷_, _++_, map}
@@ -14,6 +14,7 @@ use Rattle.steps.specs.declared.Step.{Step}
 use Rattle.steps.specs.declared.Step.the-variants.{NoCommunication, TransceiverNormal, ControllersStopped, ControllersStarted}
 use Rattle.steps.specs.declared.Step.the-variants.{Checking, Full, Restarting, Waiting, Silent}
 use Rattle.steps.specs.declared.Step.the-variants.{ClearWake, DownStopped, TransceiverStandby, ControllersSleep, CheckWake, CheckWakeAgain}
+use Rattle.steps.specs.declared.Step.the-variants.{ResetStopped, ResetStarted}
 use Rattle.steps.specs.Decision.{decision}
 use Rattle.handing.specs.Handing.{requests, entering, enteringFull, enteringSilent, downNotices, goingDown, moveRecords}
 use Rattle.network.specs.declared.LastAnswer.{LastAnswer}
@@ -167,6 +168,15 @@ examples =
     ∷ case partial (told-so CheckWake Mode.Full Mode.No 0) (handed 6 7 0 ∷ []) (quiet NoCommunication Mode.Full Mode.No 0)
     -- T22: from 14 back to 9, which tells nothing
     ∷ case partial (told-so CheckWakeAgain Mode.No Mode.No 0) (handed 4 6 0 ∷ []) (asking ClearWake Mode.No Mode.No 0)
+    -- N12, T3: after a stall step 15 asks both controllers to stop; where no is wanted it goes down, without 6 silent, which was told
+    ∷ case bare (quiet ResetStopped Mode.Full Mode.Silent 1) (both 1 0) (asking ResetStopped Mode.Full Mode.Silent 1)
+    ∷ case bare (agreed ResetStopped Mode.No Mode.Silent 1) (handed 7 7 0 ∷ both 1 0) (asking DownStopped Mode.No Mode.Silent 1)
+    ∷ case partial (agreed ResetStarted Mode.No Mode.Silent 1) (handed 7 7 0 ∷ handed 4 6 0 ∷ []) (asking ClearWake Mode.No Mode.Silent 1)
+    -- T29: done in 15, on to 16
+    ∷ case bare (agreed ResetStopped Mode.Silent Mode.Silent 1) (both 1 1) (asking ResetStarted Mode.Silent Mode.Silent 1)
+    -- T30: done in 16, it becomes full with the count as it was, or silent where that is wanted
+    ∷ case bare (agreed ResetStarted Mode.Full Mode.Silent 1) full (quiet (Checking 0) Mode.Full Mode.Full 1)
+    ∷ case fitted (agreed ResetStarted Mode.Silent Mode.Silent 2) silent (quiet Silent Mode.Silent Mode.Silent 2)
     ∷ []
 
 -- what a tick gives for a case's network and record

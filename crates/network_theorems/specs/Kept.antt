@@ -1,4 +1,4 @@
--- What holds of every network's record from the start on: it is said to be full just in steps 4 and 5; silent is wanted only in steps 4 to 8; and a
+-- What holds of every network's record from the start on: it is said to be full just in steps 4 and 5; silent is wanted only in up steps; and a
 -- record has one form. The rules N3 and N5 of docs/RULES.md.
 use mathlib.Core.Path.{_≡_}
 use mathlib.Core.Bool.{Bool, true, false}
@@ -33,7 +33,7 @@ pub record Unsaid (step : Step) : Type 0 where
 pub record Kept (n : Network) (s : State) : Type 0 where
   -- N5: told is full exactly in steps 4 and 5
   pub told : isFullMode (s .told) ≡ isFullStep (s .step)
-  -- wanted is silent only in steps 4 to 8
+  -- wanted is silent only in up steps
   pub wanted : s .wanted ≡ Mode.Silent → isUp (s .step) ≡ true
   -- N3: in a step that asks nothing, asked is no, and nothing is kept as answered or reported
   pub asked : isAsking (s .step) ≡ false → s .asked ≡ false

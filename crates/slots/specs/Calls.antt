@@ -1,6 +1,6 @@
 -- The calls of the manager, and the outcome of each, complete: answer, next manager, count, polled mode, place, the records handed out, and where a
--- buffer is lent every byte of it. Of the refusals that apply the highest in the table of docs/RULES.md is given (R6). The rules R2 to R20, H2 to H4,
--- N6 to N9, N16, T1, B1 and A1 to A5.
+-- buffer is lent every byte of it. Of the refusals that apply the highest in the table of docs/RULES.md is given (R6). The rules R2 to R21, H2 to H4,
+-- N6 to N9, N16, T1, B1, X1 and A1 to A5.
 use Prim.Native.Nat.{ℕ, _*_}
 use mathlib.Core.Path.{_≡_}
 use mathlib.Core.List.{List, [], _∷_, _++_}
@@ -24,9 +24,10 @@ use Rattle.network.specs.declared.Part.{Part}
 use Rattle.network.specs.declared.Reply.{Reply}
 use Rattle.network.specs.declared.Report.{Report}
 use Rattle.network.specs.declared.State.{State}
+use Rattle.network.specs.declared.Trouble.{Trouble}
 use Rattle.network.specs.State.{started}
 use Rattle.network.specs.Moving.{tickState}
-use Rattle.network.specs.Parts.{Sight, aBusOff, anAnswer, aRequest, aReport, isTaken, partOf, recordsOf}
+use Rattle.network.specs.Parts.{Sight, aBusOff, aStall, anAnswer, aRequest, aReport, isTaken, partOf, recordsOf}
 use Rattle.slots.specs.declared.Stage.{Stage}
 use Rattle.slots.specs.declared.Answer.{Answer}
 use Rattle.slots.specs.declared.Gate.{Gate}
@@ -44,6 +45,7 @@ pub data Call : Type 0 where
   request : (handle mode : ℕ) → Call
   poll : (handle : ℕ) → Call
   busOff : (controller room : ℕ) → Call
+  stall : (handle room : ℕ) → Call
   answer : (controller mode ok : ℕ) → Call
   transceiverMode : (transceiver mode : ℕ) → Call
   clearDone : (transceiver : ℕ) → Call
@@ -165,6 +167,15 @@ gateRecords Gate.Open rs = rs
 abbrev pub busOffNeeds : ℕ
 busOffNeeds = 9
 
+-- R21: the bytes that a stall needs
+abbrev pub stallNeeds : ℕ
+stallNeeds = 3
+
+-- the bytes that the call needs by which trouble is reported
+abbrev pub troubleNeeds : Trouble → ℕ
+troubleNeeds Trouble.BusOff = busOffNeeds
+troubleNeeds Trouble.Stall = stallNeeds
+
 -- T1, H2: every network in use has ticked, in the order of the sheet, and the count is the number of all records
 unfoldable pub allTicked : Manager → Outcome
 allTicked m =
@@ -186,6 +197,8 @@ outcome m (request handle mode) = named m (Id.OfNetwork handle) (aRequest mode)
 outcome m (poll handle) = bySlot m (slotOf m (Id.OfNetwork handle)) (λ i. polled m (stateAt m i .told))
 -- R7, R9, R11, R15, R17, B1: 01, 20 (9 bytes in every step), 04, 22; it concerns the network that has the controller
 outcome m (busOff controller room) = byGate m (gateOf m room busOffNeeds) (named m (Id.OfController controller) aBusOff)
+-- R7, R9, R10, R15, R21, X1: 01, 20 (3 bytes in every step), 03, 22
+outcome m (stall handle room) = byGate m (gateOf m room stallNeeds) (named m (Id.OfNetwork handle) aStall)
 -- R7, R11, R13, R15, A1: 01, 04, 21 (a mode above 2 or an ok value above 1), 22
 outcome m (answer controller mode ok) = named m (Id.OfController controller) (anAnswer controller mode ok)
 -- R7, R12, R13, R15, A3: 01, 05, 21 (above 2), 22: mode 2 is in range, but no step asks for it
@@ -197,7 +210,7 @@ outcome m (checkDone transceiver) = named m (Id.OfTransceiver transceiver) (aRep
 -- R7, R9, R16: 01, 20
 outcome m (tick room) = byGate m (gateOf m room (tickNeeds m)) (allTicked m)
 
--- H2: the records that a call hands out, in the order in which they are made; only a bus-off and a tick hand out any
+-- H2: the records that a call hands out, in the order in which they are made; only a bus-off, a stall and a tick hand out any
 unfoldable pub handedOut : Manager → Call → List Record
 handedOut m (read bytes) = []
 handedOut m (write room) = []
@@ -206,6 +219,7 @@ handedOut m start = []
 handedOut m (request handle mode) = []
 handedOut m (poll handle) = []
 handedOut m (busOff controller room) = gateRecords (gateOf m room busOffNeeds) (slotRecords m (slotOf m (Id.OfController controller)) aBusOff)
+handedOut m (stall handle room) = gateRecords (gateOf m room stallNeeds) (slotRecords m (slotOf m (Id.OfNetwork handle)) aStall)
 handedOut m (answer controller mode ok) = []
 handedOut m (transceiverMode transceiver mode) = []
 handedOut m (clearDone transceiver) = []
@@ -227,7 +241,7 @@ pub record Gives (m : Manager) (c : Call) (b : List ℕ) (r : Outcome) (after : 
   pub result : r ≡ outcome m c
   pub buffer : after ≡ bufferWith b (handedOut m c)
 
--- what a slot gives that a bus-off names
+-- what a slot gives that a bus-off or a stall names
 pub record SlotGives (m : Manager) (slot : Slot) (sight : Sight) (b : List ℕ) (r : Outcome) (after : List ℕ) : Type 0 where
   pub result : r ≡ bySlot m slot (λ i. slotOutcome m i sight)
   pub buffer : after ≡ bufferWith b (slotRecords m slot sight)

@@ -133,6 +133,8 @@ impl Manager {
     pub const BUS_OFF_RECORDS: usize = 3;
 
     pub const BUS_OFF_NEEDS: usize = Record::SIZE * Manager::BUS_OFF_RECORDS;
+    // R21: the bytes of a stall, which hands out one record at most.
+    pub const STALL_NEEDS: usize = Record::SIZE;
     // The most records of a tick that name a network's handle and no controller.
     pub const NOTICES: usize = 2;
     // The most records of a tick, and the bytes that they need.

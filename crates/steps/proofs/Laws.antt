@@ -6,14 +6,16 @@ use Rattle.steps.specs.declared.Step.{Step}
 use Rattle.steps.specs.declared.Step.the-variants.{NoCommunication, TransceiverNormal, ControllersStopped, ControllersStarted}
 use Rattle.steps.specs.declared.Step.the-variants.{Checking, Full, Restarting, Waiting, Silent}
 use Rattle.steps.specs.declared.Step.the-variants.{ClearWake, DownStopped, TransceiverStandby, ControllersSleep, CheckWake, CheckWakeAgain}
+use Rattle.steps.specs.declared.Step.the-variants.{ResetStopped, ResetStarted}
 use Rattle.steps.specs.declared.Phase.{Phase}
 use Rattle.steps.specs.declared.Ask.{Ask}
 use Rattle.steps.specs.declared.Outfit.{Outfit}
-use Rattle.steps.specs.Steps.{phaseOf, asksFor, asksToSleep}
+use Rattle.steps.specs.Steps.{phaseOf, asksFor, asksToStart, asksToSleep}
 use Rattle.steps.specs.Decision.{decision}
 
 -- ---- phaseOf
--- what a phase says of its steps: the phases off, full and silent have one step, and a step that is checked asks for nothing
+-- what a phase says of its steps: the phases off, full and silent have one step, a step that is checked asks for nothing, and in a reset the step
+-- that does not ask the controllers to start is 15
 abbrev pub InPhase : Phase → Step → Type 0
 InPhase Phase.Off step = step ≡ NoCommunication
 InPhase Phase.Rising step = Unit
@@ -22,6 +24,7 @@ InPhase Phase.Full step = step ≡ Full
 InPhase Phase.Recovering step = Unit
 InPhase Phase.Silent step = step ≡ Silent
 InPhase Phase.Falling step = Unit
+InPhase Phase.Resetting step = asksToStart (asksFor step) ≡ false → step ≡ ResetStopped
 
 pub in-phase : (step : Step) → InPhase (phaseOf step) step
 in-phase NoCommunication = refl
@@ -39,6 +42,8 @@ in-phase TransceiverStandby = tt
 in-phase ControllersSleep = tt
 in-phase CheckWake = tt
 in-phase CheckWakeAgain = tt
+in-phase ResetStopped = λ e. refl
+in-phase ResetStarted = λ e. absurd (true≢false e)
 
 -- ---- decision
 module _ (wanted : Mode) (done refused reached : Bool) (outfit : Outfit) where
@@ -61,3 +66,5 @@ module _ (wanted : Mode) (done refused reached : Bool) (outfit : Outfit) where
   only-sleep ControllersSleep e = absurd (true≢false e)
   only-sleep CheckWake e = refl
   only-sleep CheckWakeAgain e = refl
+  only-sleep ResetStopped e = refl
+  only-sleep ResetStarted e = refl

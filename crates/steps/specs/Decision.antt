@@ -1,6 +1,6 @@
 -- What a tick decides for one network: one decision over the step, the wanted mode, whether the step is done, whether a refusal is among the last
 -- answers, whether the timer is reached, and the outfit. It is total: a step that asks and is not done asks again, and where no rule speaks the step
--- stays. The rules N12 and T3 to T22 of docs/RULES.md.
+-- stays. The rules N12, T3 to T22, T29 and T30 of docs/RULES.md.
 use Prim.Native.Nat.{ℕ, _+_}
 use mathlib.Core.Bool.{Bool, true, false, cond}
 use lib.Dec.{ltb}
@@ -9,6 +9,7 @@ use Rattle.steps.specs.declared.Step.{Step}
 use Rattle.steps.specs.declared.Step.the-variants.{NoCommunication, TransceiverNormal, ControllersStopped, ControllersStarted}
 use Rattle.steps.specs.declared.Step.the-variants.{Checking, Full, Restarting, Waiting, Silent}
 use Rattle.steps.specs.declared.Step.the-variants.{ClearWake, DownStopped, TransceiverStandby, ControllersSleep, CheckWake, CheckWakeAgain}
+use Rattle.steps.specs.declared.Step.the-variants.{ResetStopped, ResetStarted}
 use Rattle.steps.specs.declared.Outfit.{Outfit}
 use Rattle.steps.specs.declared.Outfit.the-variants.{Bare, Fitted, Partial}
 use Rattle.steps.specs.declared.Move.{Move}
@@ -50,7 +51,7 @@ isNo Mode.No = true
 isNo Mode.Silent = false
 isNo Mode.Full = false
 
--- T3: no is wanted in a step from 1 to 8
+-- T3: no is wanted in a step from 1 to 8, in 15 or in 16
 abbrev pub goesDown : Step → Mode → Bool
 goesDown step wanted = cond (isNo wanted) (isOn step) false
 
@@ -94,6 +95,10 @@ ruleOf ControllersSleep wanted done refused reached outfit =
 ruleOf CheckWake wanted done refused reached outfit = whenDone done (byPartial outfit Stay EnterNoCommunication)
 -- T22: done, with partial networking back to 9
 ruleOf CheckWakeAgain wanted done refused reached outfit = whenDone done (byPartial outfit Stay (Enter ClearWake))
+-- T29: done, it goes on to 16
+ruleOf ResetStopped wanted done refused reached outfit = whenDone done (Enter ResetStarted)
+-- T30: done, it becomes full, or silent where that is wanted
+ruleOf ResetStarted wanted done refused reached outfit = whenDone done (byMode wanted EnterFull EnterSilent EnterFull)
 
 -- T3: what a tick decides, where going down is looked at first
 unfoldable pub decision : Step → Mode → Bool → Bool → Bool → Outfit → Move

@@ -1,5 +1,5 @@
--- The fifteen steps as one table, with a row for each: its number, its phase, what it asks for and what it counts. What holds of whole groups of
--- steps is said of the phase. The rules N1, N2, N4 and N10 of docs/RULES.md.
+-- The seventeen steps as one table, with a row for each: its number, its phase, what it asks for and what it counts. What holds of whole groups of
+-- steps is said of the phase. The rules N1, N2, N4, N5 and N10 of docs/RULES.md.
 use Prim.Native.Nat.{ℕ}
 use mathlib.Core.Bool.{Bool, true, false}
 use Rattle.records.specs.declared.ControllerMode.{ControllerMode}
@@ -8,6 +8,7 @@ use Rattle.steps.specs.declared.Step.{Step}
 use Rattle.steps.specs.declared.Step.the-variants.{NoCommunication, TransceiverNormal, ControllersStopped, ControllersStarted}
 use Rattle.steps.specs.declared.Step.the-variants.{Checking, Full, Restarting, Waiting, Silent}
 use Rattle.steps.specs.declared.Step.the-variants.{ClearWake, DownStopped, TransceiverStandby, ControllersSleep, CheckWake, CheckWakeAgain}
+use Rattle.steps.specs.declared.Step.the-variants.{ResetStopped, ResetStarted}
 use Rattle.steps.specs.declared.Phase.{Phase}
 use Rattle.steps.specs.declared.Ask.{Ask}
 use Rattle.steps.specs.declared.Timer.{Timer}
@@ -17,11 +18,11 @@ use Rattle.steps.specs.declared.Profile.{Profile}
 abbrev pub row : ℕ → Phase → Ask → Timer → Profile
 row number phase ask timer = record { number = number; phase = phase; ask = ask; timer = timer }
 
--- the controllers are to stop, as steps 2 and 10 ask
+-- the controllers are to stop, as steps 2, 10 and 15 ask
 abbrev stopped : Ask
 stopped = Ask.Controllers ControllerMode.Stopped
 
--- the controllers are to start, as steps 3 and 6 ask
+-- the controllers are to start, as steps 3, 6 and 16 ask
 abbrev started : Ask
 started = Ask.Controllers ControllerMode.Started
 
@@ -42,8 +43,10 @@ profileOf TransceiverStandby = row 11 Phase.Falling (Ask.Transceiver Transceiver
 profileOf ControllersSleep = row 12 Phase.Falling (Ask.Controllers ControllerMode.Sleep) Timer.Idle
 profileOf CheckWake = row 13 Phase.Falling Ask.CheckWake Timer.Idle
 profileOf CheckWakeAgain = row 14 Phase.Falling Ask.CheckWake Timer.Idle
+profileOf ResetStopped = row 15 Phase.Resetting stopped Timer.Idle
+profileOf ResetStarted = row 16 Phase.Resetting started Timer.Idle
 
--- the number of a step, 0 to 14, whatever its tick count is
+-- the number of a step, 0 to 16, whatever its tick count is
 abbrev pub stepNumber : Step → ℕ
 stepNumber step = profileOf step .number
 
@@ -60,7 +63,7 @@ abbrev pub timerOf : Step → Timer
 timerOf step = profileOf step .timer
 
 -- ---- groups of steps
--- the phases of steps 1 to 8, which a network leaves where no is wanted
+-- the phases of steps 1 to 8, 15 and 16, which a network leaves where no is wanted
 abbrev pub onPhase : Phase → Bool
 onPhase Phase.Off = false
 onPhase Phase.Rising = true
@@ -69,8 +72,9 @@ onPhase Phase.Full = true
 onPhase Phase.Recovering = true
 onPhase Phase.Silent = true
 onPhase Phase.Falling = false
+onPhase Phase.Resetting = true
 
--- N4: up are the phases of steps 4 to 8
+-- N4: up are the phases of steps 4 to 8, 15 and 16
 abbrev pub upPhase : Phase → Bool
 upPhase Phase.Off = false
 upPhase Phase.Rising = false
@@ -79,8 +83,9 @@ upPhase Phase.Full = true
 upPhase Phase.Recovering = true
 upPhase Phase.Silent = true
 upPhase Phase.Falling = false
+upPhase Phase.Resetting = true
 
--- the phases of steps 4 and 5
+-- N5: the phases of steps 4 and 5
 abbrev pub fullPhase : Phase → Bool
 fullPhase Phase.Off = false
 fullPhase Phase.Rising = false
@@ -89,16 +94,17 @@ fullPhase Phase.Full = true
 fullPhase Phase.Recovering = false
 fullPhase Phase.Silent = false
 fullPhase Phase.Falling = false
+fullPhase Phase.Resetting = false
 
--- steps 1 to 8
+-- steps 1 to 8, 15 and 16
 abbrev pub isOn : Step → Bool
 isOn step = onPhase (phaseOf step)
 
--- N4: up are steps 4 to 8
+-- N4: up are steps 4 to 8, 15 and 16
 abbrev pub isUp : Step → Bool
 isUp step = upPhase (phaseOf step)
 
--- steps 4 and 5
+-- N5: steps 4 and 5
 abbrev pub isFullStep : Step → Bool
 isFullStep step = fullPhase (phaseOf step)
 
@@ -111,11 +117,11 @@ isAsk (Ask.Transceiver mode) = true
 isAsk Ask.ClearWake = true
 isAsk Ask.CheckWake = true
 
--- N10: the steps that ask are 1 to 3, 6 and 9 to 14
+-- N10: the steps that ask are 1 to 3, 6 and 9 to 16
 abbrev pub isAsking : Step → Bool
 isAsking step = isAsk (asksFor step)
 
--- the controllers are to start, as in steps 3 and 6
+-- the controllers are to start, as in steps 3, 6 and 16
 abbrev pub asksToStart : Ask → Bool
 asksToStart Ask.Nothing = false
 asksToStart (Ask.Controllers ControllerMode.Stopped) = false

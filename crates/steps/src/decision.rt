@@ -67,7 +67,7 @@ fn rise(ticks: u16) -> u16
 
 // ---- the rules
 
-// T3: no is wanted in a step from 1 to 8.
+// T3: no is wanted in a step from 1 to 8, in 15 or in 16.
 fn goes_down(step: Step, wanted: Mode) -> bool
     ensures { λ r. ⌜ r ≡ goesDown step wanted ⌝ }
 {
@@ -78,7 +78,7 @@ fn goes_down(step: Step, wanted: Mode) -> bool
     }
 }
 
-// T4 to T22: a rule for each step, where the network does not go down.
+// T4 to T22, T29, T30: a rule for each step, where the network does not go down.
 fn rule_of(
     step: Step,
     wanted: Mode,
@@ -156,6 +156,11 @@ fn rule_of(
         Step::CheckWakeAgain => {
             let next = by_partial(outfit, Move::Stay, Move::Enter(Step::ClearWake));
             when_done(done, next)
+        }
+        Step::ResetStopped => when_done(done, Move::Enter(Step::ResetStarted)),
+        Step::ResetStarted => {
+            let back = by_mode(wanted, Move::EnterFull, Move::EnterSilent, Move::EnterFull);
+            when_done(done, back)
         }
     }
 }

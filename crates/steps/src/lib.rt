@@ -1,10 +1,10 @@
-// The fifteen steps of a network, what each asks for, and what a tick decides.
+// The seventeen steps of a network, what each asks for, and what a tick decides.
 mod after;
 mod decision;
 
 ghost use mathlib.Core.Path.{_≡_};
 ghost use Rattle.steps.specs.Steps.{row, profileOf, stepNumber, phaseOf, asksFor, timerOf};
-ghost use Rattle.steps.specs.Steps.{onPhase, upPhase, isOn, isUp, asksToStart, asksToSleep};
+ghost use Rattle.steps.specs.Steps.{onPhase, upPhase, fullPhase, isOn, isUp, isFullStep, asksToStart, asksToSleep};
 pub use after::first_down;
 pub use after::step_after;
 pub use decision::decide;
@@ -32,6 +32,9 @@ pub enum Step {
     ControllersSleep,
     CheckWake,
     CheckWakeAgain,
+    // After a stall, 15 and 16, where the network is up.
+    ResetStopped,
+    ResetStarted,
 }
 
 // What a network is about in a step. What holds of whole groups of steps is said of the phase.
@@ -44,6 +47,8 @@ pub enum Phase {
     Recovering,
     Silent,
     Falling,
+    // After a stall: the controllers are stopped, and started again.
+    Resetting,
 }
 
 // What a step asks for.
@@ -98,7 +103,7 @@ pub enum Move {
 }
 
 impl Phase {
-    // Steps 1 to 8, which a network leaves where no communication is wanted.
+    // Steps 1 to 8, 15 and 16, which a network leaves where no communication is wanted.
     fn is_on(self) -> bool
         ensures { λ r. ⌜ r ≡ onPhase self ⌝ }
     {
@@ -110,10 +115,11 @@ impl Phase {
             Phase::Recovering => true,
             Phase::Silent => true,
             Phase::Falling => false,
+            Phase::Resetting => true,
         }
     }
 
-    // N4: steps 4 to 8.
+    // N4: steps 4 to 8, 15 and 16.
     fn is_up(self) -> bool
         ensures { λ r. ⌜ r ≡ upPhase self ⌝ }
     {
@@ -125,6 +131,23 @@ impl Phase {
             Phase::Recovering => true,
             Phase::Silent => true,
             Phase::Falling => false,
+            Phase::Resetting => true,
+        }
+    }
+
+    // N5: steps 4 and 5.
+    fn is_full(self) -> bool
+        ensures { λ r. ⌜ r ≡ fullPhase self ⌝ }
+    {
+        match self {
+            Phase::Off => false,
+            Phase::Rising => false,
+            Phase::Checking => true,
+            Phase::Full => true,
+            Phase::Recovering => false,
+            Phase::Silent => false,
+            Phase::Falling => false,
+            Phase::Resetting => false,
         }
     }
 }
@@ -211,6 +234,8 @@ impl Step {
             Step::ControllersSleep => row(12, Phase::Falling, Ask::SLEEP, Timer::Idle),
             Step::CheckWake => row(13, Phase::Falling, Ask::CheckWake, Timer::Idle),
             Step::CheckWakeAgain => row(14, Phase::Falling, Ask::CheckWake, Timer::Idle),
+            Step::ResetStopped => row(15, Phase::Resetting, Ask::STOPPED, Timer::Idle),
+            Step::ResetStarted => row(16, Phase::Resetting, Ask::STARTED, Timer::Idle),
         }
     }
 
@@ -246,7 +271,7 @@ impl Step {
         profile.timer
     }
 
-    // Steps 1 to 8.
+    // Steps 1 to 8, 15 and 16.
     fn is_on(self) -> bool
         ensures { λ r. ⌜ r ≡ isOn self ⌝ }
     {
@@ -254,11 +279,19 @@ impl Step {
         phase.is_on()
     }
 
-    // N4: steps 4 to 8.
+    // N4: steps 4 to 8, 15 and 16.
     pub fn is_up(self) -> bool
         ensures { λ r. ⌜ r ≡ isUp self ⌝ }
     {
         let phase = self.phase();
         phase.is_up()
+    }
+
+    // N5: steps 4 and 5.
+    pub fn is_full(self) -> bool
+        ensures { λ r. ⌜ r ≡ isFullStep self ⌝ }
+    {
+        let phase = self.phase();
+        phase.is_full()
     }
 }

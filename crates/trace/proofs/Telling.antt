@@ -35,6 +35,7 @@ event-counts (Event.ClearDone transceiver) = refl
 event-counts (Event.CheckDone transceiver) = refl
 event-counts Event.Tick = refl
 event-counts (Event.Poll handle) = refl
+event-counts (Event.Stall handle) = refl
 
 -- it is lent at most 144 bytes
 event-room : (event : Event) → roomOf (callOf event) ≤ 144
@@ -46,6 +47,7 @@ event-room (Event.ClearDone transceiver) = omega arith
 event-room (Event.CheckDone transceiver) = omega arith
 event-room Event.Tick = omega arith
 event-room (Event.Poll handle) = omega arith
+event-room (Event.Stall handle) = omega arith
 
 -- there are at most 48 records
 pub event-fits : (m : Manager) (event : Event) (o : Outcome) {lent buffer : List ℕ} → Gives m (callOf event) lent o buffer → o .count ≤ 48

@@ -5,7 +5,7 @@ use mathlib.Core.Bool.{Bool, true, false, cond}
 use Rattle.text.specs.Text.{blank, newline, decimal, recordsText}
 use Rattle.records.specs.declared.Record.{Record}
 use Rattle.slots.specs.declared.Manager.{Manager}
-use Rattle.slots.specs.Calls.{Call, read, write, start, request, poll, busOff, answer, transceiverMode, clearDone, checkDone, tick}
+use Rattle.slots.specs.Calls.{Call, read, write, start, request, poll, busOff, stall, answer, transceiverMode, clearDone, checkDone, tick}
 use Rattle.calls.specs.Histories.{Entry, entryOf}
 use Rattle.trace.specs.declared.Event.{Event}
 use Rattle.trace.specs.Events.{callOf}
@@ -38,6 +38,7 @@ polls start = false
 polls (request handle mode) = false
 polls (poll handle) = true
 polls (busOff controller room) = false
+polls (stall handle room) = false
 polls (answer controller mode ok) = false
 polls (transceiverMode transceiver mode) = false
 polls (clearDone transceiver) = false

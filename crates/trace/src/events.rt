@@ -85,6 +85,9 @@ fn event_of(tag: u8, length: u16, first: u8, second: u8, third: u8) -> Item
     if tag == Event::POLL {
         return sized(length, Event::POLL_LENGTH, Event::Poll { handle: first });
     }
+    if tag == Event::STALL {
+        return sized(length, Event::STALL_LENGTH, Event::Stall { handle: first });
+    }
     Item::Bad
 }
 
@@ -155,5 +158,6 @@ pub fn run_event(manager: Manager, event: Event, buffer: &mut [u8; Trace::LENT])
         Event::CheckDone { transceiver } => manager::check_done(manager, transceiver),
         Event::Tick => manager::tick(manager, buffer),
         Event::Poll { handle } => manager::poll(manager, handle),
+        Event::Stall { handle } => manager::stall(manager, handle, buffer),
     }
 }

@@ -23,6 +23,7 @@ pub enum Event {
     CheckDone { transceiver: u8 },
     Tick,
     Poll { handle: u8 },
+    Stall { handle: u8 },
 }
 
 impl Event {
@@ -42,6 +43,8 @@ impl Event {
     pub const TICK: u8 = 0x16;
 
     pub const POLL: u8 = 0x17;
+
+    pub const STALL: u8 = 0x18;
     // The lengths of their values.
     pub const REQUEST_LENGTH: u16 = 2;
 
@@ -58,6 +61,8 @@ impl Event {
     pub const TICK_LENGTH: u16 = 0;
 
     pub const POLL_LENGTH: u16 = 1;
+
+    pub const STALL_LENGTH: u16 = 1;
 }
 
 // What stands at a place of the events.

@@ -61,6 +61,7 @@ fn is_poll(event: Event) -> bool
         Event::CheckDone { transceiver: _ } => false,
         Event::Tick => false,
         Event::Poll { handle: _ } => true,
+        Event::Stall { handle: _ } => false,
     }
 }
 

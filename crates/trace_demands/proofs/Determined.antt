@@ -10,7 +10,7 @@ use Rattle.network.specs.Parts.{Sight}
 use Rattle.fields.specs.Fields.{Row, stop, stub, overrun, field, rowAt}
 use Rattle.slots.specs.declared.Manager.{Manager}
 use Rattle.slots.specs.declared.Outcome.{Outcome}
-use Rattle.slots.specs.Calls.{Call, read, write, start, request, poll, busOff, answer, transceiverMode, clearDone, checkDone, tick}
+use Rattle.slots.specs.Calls.{Call, read, write, start, request, poll, busOff, stall, answer, transceiverMode, clearDone, checkDone, tick}
 use Rattle.slots.specs.Calls.{allTicked, outcome, handedOut}
 use Rattle.calls.specs.Histories.{Entry, entryOf, History, Since, begun, goes, to, addressOf}
 use Rattle.calls.proofs.ByCall.{by-call}
@@ -58,6 +58,7 @@ named-no-poll start id sight e = refl
 named-no-poll (request handle mode) id sight e = refl
 named-no-poll (poll handle) id sight e = absurd (let z : _≡_ {A = ℕ} 0 1 = cc in omega arith)
 named-no-poll (busOff controller room) id sight e = refl
+named-no-poll (stall handle room) id sight e = refl
 named-no-poll (answer controller mode ok) id sight e = refl
 named-no-poll (transceiverMode transceiver mode) id sight e = refl
 named-no-poll (clearDone transceiver) id sight e = refl

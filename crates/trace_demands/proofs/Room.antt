@@ -6,14 +6,14 @@ use Rattle.lists.proofs.Tests.{split}
 use Rattle.settings.specs.declared.Id.{Id}
 use Rattle.settings.specs.Settings.{member}
 use Rattle.network.specs.declared.Reply.{Reply}
-use Rattle.network.specs.Parts.{Sight, aBusOff, isTaken, partOf}
+use Rattle.network.specs.Parts.{Sight, aBusOff, aStall, isTaken, partOf}
 use Rattle.slots.specs.declared.Stage.{Stage}
 use Rattle.slots.specs.declared.Answer.{Answer}
 use Rattle.slots.specs.declared.Gate.{Gate}
 use Rattle.slots.specs.declared.Manager.{Manager}
 use Rattle.slots.specs.declared.Outcome.{Outcome}
 use Rattle.slots.specs.Manager.{answerNumber, networkAt, stateAt, tickNeeds}
-use Rattle.slots.specs.Calls.{Call, byStage, bySlot, answerOf, settled, slotOutcome, named, gateOf, byGate, allTicked, outcome}
+use Rattle.slots.specs.Calls.{Call, byStage, unknown, bySlot, answerOf, settled, slotOutcome, named, gateOf, byGate, allTicked, outcome}
 use Rattle.calls.specs.Histories.{entryOf, answersOf, History, Since, goes}
 use Rattle.calls.proofs.ByCall.{by-slot}
 use Rattle.manager_theorems.specs.Careful.{Sound}
@@ -29,12 +29,17 @@ use Rattle.trace_demands.specs.Recorded.{historyAfter, tooShort}
 abbrev NotShort : Outcome → Type 0
 NotShort o = answerNumber (o .answer) ≡ 0x20 → ⊥
 
--- ---- a bus-off
+-- ---- a bus-off and a stall
 reply-not-short : (reply : Reply) → answerNumber (answerOf reply) ≡ 0x20 → ⊥
 reply-not-short Reply.Taken e = omega arith
 reply-not-short Reply.OutOfRange e = omega arith
 reply-not-short Reply.NotUp e = omega arith
 reply-not-short Reply.NotTaken e = omega arith
+
+unknown-not-short : (id : Id) → answerNumber (unknown id) ≡ 0x20 → ⊥
+unknown-not-short (Id.OfNetwork handle) e = omega arith
+unknown-not-short (Id.OfController controller) e = omega arith
+unknown-not-short (Id.OfTransceiver transceiver) e = omega arith
 
 module _ (m : Manager) where
   slot-not-short : (i : ℕ) (sight : Sight) → NotShort (slotOutcome m i sight)
@@ -43,13 +48,12 @@ module _ (m : Manager) where
       let reply = partOf (networkAt m i) (stateAt m i) sight .reply in
       split NotShort (isTaken reply) (λ _ e. omega arith) (λ _. reply-not-short reply)
 
-  named-not-short : (controller : ℕ) (sight : Sight) → NotShort (named m (Id.OfController controller) sight)
+  named-not-short : (id : Id) (sight : Sight) → NotShort (named m id sight)
   unfolding named
-  named-not-short controller sight =
-      by-slot m (Id.OfController controller) (λ slot. NotShort (bySlot m slot (λ i. slotOutcome m i sight)))
-      (λ f e. omega arith) (λ f e. omega arith) (λ i f. slot-not-short i sight)
+  named-not-short id sight = by-slot m id (λ slot. NotShort (bySlot m slot (λ i. slotOutcome m i sight)))
+      (λ f e. omega arith) (λ f. unknown-not-short id) (λ i f. slot-not-short i sight)
 
-  -- 144 bytes are more than its records need
+  -- 144 bytes are more than the records need
   gate-not-short : (needs : ℕ) (o : Outcome) → needs ≤ 144 → NotShort o → NotShort (byGate m (gateOf m 144 needs) o)
   unfolding gateOf
   gate-not-short needs o l p = at-stage (m .stage) where
@@ -68,13 +72,14 @@ module _ (m : Manager) where
   event-not-short : Sound m → (event : Event) → NotShort (outcome m (callOf event))
   unfolding any outcome allTicked
   event-not-short s (Event.Request handle mode) = among (callOf (Event.Request handle mode)) refl
-  event-not-short s (Event.BusOff controller) = gate-not-short 9 _ (omega arith) (named-not-short controller aBusOff)
+  event-not-short s (Event.BusOff controller) = gate-not-short 9 _ (omega arith) (named-not-short (Id.OfController controller) aBusOff)
   event-not-short s (Event.Answer controller mode ok) = among (callOf (Event.Answer controller mode ok)) refl
   event-not-short s (Event.TransceiverMode transceiver mode) = among (callOf (Event.TransceiverMode transceiver mode)) refl
   event-not-short s (Event.ClearDone transceiver) = among (callOf (Event.ClearDone transceiver)) refl
   event-not-short s (Event.CheckDone transceiver) = among (callOf (Event.CheckDone transceiver)) refl
   event-not-short s Event.Tick = gate-not-short (tickNeeds m) _ (tick-needs-most m s) (λ e. omega arith)
   event-not-short s (Event.Poll handle) = among (callOf (Event.Poll handle)) refl
+  event-not-short s (Event.Stall handle) = gate-not-short 3 _ (omega arith) (named-not-short (Id.OfNetwork handle) aStall)
 
   tick-accepted : Sound m → m .stage ≡ Stage.Started → outcome m (callOf Event.Tick) .answer ≡ Answer.Accepted
   unfolding outcome gateOf allTicked tickNeeds

@@ -38,26 +38,32 @@ returns-6 c =
 
 returns-7 : tie.Need-returns-7
 returns-7 c =
-    let seen = c .before .before .before .before .before in
-    returned (c .before .before .task4 .given .1) (seen .shared-slice-known .given) (c .controller-answer .ensures) refl
+    let made = c .before .before in let seen = made .before .before .before .before .before .before in
+    returned (made .before .before .before .task4 .given .1) (seen .shared-slice-known .given)
+    (made .stall .ensures .result) (made .stall .ensures .buffer)
 
 returns-8 : tie.Need-returns-8
 returns-8 c =
     let seen = c .before .before .before .before .before in
-    returned (c .before .before .task5 .given .1) (seen .shared-slice-known .given) (c .transceiver-mode .ensures) refl
+    returned (c .before .before .task5 .given .1) (seen .shared-slice-known .given) (c .controller-answer .ensures) refl
 
 returns-9 : tie.Need-returns-9
 returns-9 c =
     let seen = c .before .before .before .before .before in
-    returned (c .before .before .task6 .given .1) (seen .shared-slice-known .given) (c .clear-done .ensures) refl
+    returned (c .before .before .task6 .given .1) (seen .shared-slice-known .given) (c .transceiver-mode .ensures) refl
 
 returns-10 : tie.Need-returns-10
 returns-10 c =
     let seen = c .before .before .before .before .before in
-    returned (c .before .before .task7 .given .1) (seen .shared-slice-known .given) (c .check-done .ensures) refl
+    returned (c .before .before .task7 .given .1) (seen .shared-slice-known .given) (c .clear-done .ensures) refl
 
 returns-11 : tie.Need-returns-11
 returns-11 c =
+    let seen = c .before .before .before .before .before in
+    returned (c .before .before .task8 .given .1) (seen .shared-slice-known .given) (c .check-done .ensures) refl
+
+returns-12 : tie.Need-returns-12
+returns-12 c =
     let made = c .before .before in let seen = made .before .before .before .before .before in
     returned (made .before .before .enum-told4 .given .1) (seen .shared-slice-known .given) (made .tick .ensures .result)
     (made .tick .ensures .buffer)
@@ -66,5 +72,6 @@ pub make-spec : {M : Type 1} → statement M
 make-spec = tie.close (tie.spec (λ c. search needs) (λ c κs. search needs) (λ c. search needs) (λ c κs. search needs) (λ c. search needs)
     (λ c κs. search needs) (λ c. search needs) (λ c κs. search needs) (λ c. search needs) (λ c κs. search needs) (λ c. search needs)
     (λ c κs. search needs) (λ c. search needs) (λ c κs. search needs) (λ c. search needs) (λ c κs. search needs) (λ c. search needs)
-    (λ c κs. search needs) (λ c. search needs) (λ c κs. search needs) (λ c. search needs) (λ c κs. search needs) returns (λ c. search needs)
-    returns-2 returns-3 returns-4 returns-5 (λ c. search needs) returns-6 returns-7 returns-8 returns-9 returns-10 (λ c. search needs) returns-11)
+    (λ c κs. search needs) (λ c. search needs) (λ c κs. search needs) (λ c. search needs) (λ c κs. search needs) (λ c. search needs)
+    (λ c κs. search needs) returns (λ c. search needs) returns-2 returns-3 returns-4 returns-5 (λ c. search needs) returns-6 (λ c. search needs)
+    returns-7 returns-8 returns-9 returns-10 returns-11 (λ c. search needs) returns-12)

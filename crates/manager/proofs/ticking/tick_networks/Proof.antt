@@ -8,7 +8,8 @@ use Rattle.records.proofs.Laws.{wrote-length}
 use Rattle.settings.specs.Settings.{blankNetwork}
 use Rattle.network.specs.Moving.{tickState}
 use Rattle.slots.specs.Manager.{each, allRecords, tickNeeds}
-use Rattle.manager.proofs.Ticks.{each-none, each-more, ticked-none, tick-room, tick-wrote, rests-so, rest-kept, rest-wrote, ticks-end}
+use Rattle.slots.proofs.Each.{each-none, each-more}
+use Rattle.manager.proofs.Ticks.{ticked-none, tick-room, tick-wrote, rests-so, rest-kept, rest-wrote, ticks-end}
 use Rattle.manager.proofs.ticking.tick_networks.Statement.{statement}
 use Rattle.manager.proofs.ticking.tick_networks.Tie as tie
 

@@ -11,6 +11,8 @@ returns c = simp (c .before .before .before .enum-told .given .1, c .before .bef
 
 pub hit-part-spec : {M : Type 1} → statement M
 hit-part-spec = tie.close (tie.spec (λ c. search needs) (λ c κs. search needs) (λ c κs. search needs) (λ c κs. search needs) (λ c. search needs)
-    (λ c κs. search needs) (λ c κs. search needs) (λ c. search needs) (λ c κs. search needs) returns
+    (λ c κs. search needs) (λ c κs. search needs) (λ c. search needs) (λ c κs. search needs) (λ c κs. search needs) (λ c. search needs)
+    (λ c κs. search needs) returns
     (λ c. unfold hitPart afterHit in simp (c .before .before .enum-told2 .given .1, c .before .anew2 .ensures, c .take2 .ensures))
-    (λ c. unfold hitPart afterHit in simp (c .before .enum-told3 .given .1, c .decline .ensures)))
+    (λ c. unfold hitPart afterHit in simp (c .before .before .enum-told3 .given .1, c .before .anew3 .ensures, c .take3 .ensures))
+    (λ c. unfold hitPart afterHit in simp (c .before .enum-told4 .given .1, c .decline .ensures)))

@@ -4,13 +4,13 @@ use Rattle.trace.specs.Events.{eventOf}
 use Rattle.trace.proofs.events.event_of.Statement.{statement}
 use Rattle.trace.proofs.events.event_of.Tie as tie
 
-returns-9 : tie.Need-returns-9
+returns-10 : tie.Need-returns-10
 unfolding eventOf
-returns-9 c =
-    let b = c .before .before .before in let p = b .before .before in
+returns-10 c =
+    let b = c .before .before .before in let p = b .before .before .before in
     let e = ne-eqb _ _ (p .before .before .if1 .left) in let f = ne-eqb _ _ (p .before .if2 .left) in let g = ne-eqb _ _ (p .if3 .left) in
-    let h = ne-eqb _ _ (b .before .if4 .left) in let i = ne-eqb _ _ (b .if5 .left) in let j = ne-eqb _ _ (c .before .before .if6 .left) in
-    simp (e, f, g, h, i, j, ne-eqb _ _ (c .before .if7 .left), ne-eqb _ _ (c .if8 .left))
+    let h = ne-eqb _ _ (b .before .before .if4 .left) in let i = ne-eqb _ _ (b .before .if5 .left) in let j = ne-eqb _ _ (b .if6 .left) in
+    simp (e, f, g, h, i, j, ne-eqb _ _ (c .before .before .if7 .left), ne-eqb _ _ (c .before .if8 .left), ne-eqb _ _ (c .if9 .left))
 
 pub event-of-spec : {M : Type 1} → statement M
 event-of-spec = tie.close (tie.spec
@@ -21,4 +21,5 @@ event-of-spec = tie.close (tie.spec
     (λ c κs. search needs) (λ c. unfold eventOf in c .sized5 .ensures ∙ simp (c .before .if5 .taken))
     (λ c κs. search needs) (λ c. unfold eventOf in c .sized6 .ensures ∙ simp (c .before .if6 .taken))
     (λ c κs. search needs) (λ c. unfold eventOf in c .sized7 .ensures ∙ simp (c .before .if7 .taken))
-    (λ c κs. search needs) (λ c. unfold eventOf in c .sized8 .ensures ∙ simp (c .before .if8 .taken)) returns-9)
+    (λ c κs. search needs) (λ c. unfold eventOf in c .sized8 .ensures ∙ simp (c .before .if8 .taken))
+    (λ c κs. search needs) (λ c. unfold eventOf in c .sized9 .ensures ∙ simp (c .before .if9 .taken)) returns-10)

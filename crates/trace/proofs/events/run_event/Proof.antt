@@ -1,6 +1,6 @@
 -- `trace::events::run_event` meets its contract.
 use Rattle.lists.proofs.Basics.{refl, ap, needs}
-use Rattle.slots.specs.Calls.{busOff, tick, handedOut}
+use Rattle.slots.specs.Calls.{busOff, stall, tick, handedOut}
 use Rattle.trace.specs.Events.{callOf}
 use Rattle.trace.proofs.EventLaws.{quiet-gives, lent-gives}
 use Rattle.trace.proofs.events.run_event.Statement.{statement}
@@ -45,8 +45,14 @@ returns-8 : tie.Need-returns-8
 unfolding handedOut
 returns-8 c = quiet-gives _ _ _ _ (c .before .before .event7 .given .1) (c .poll .ensures) refl
 
+returns-9 : tie.Need-returns-9
+returns-9 c =
+    let e = c .before .before .before in
+    lent-gives _ (e .before .before .args .event) (stall (e .event8 .given .0 .0)) _ _ (ap callOf (e .event8 .given .1)) (search needs)
+    (c .stall .ensures)
+
 pub run-event-spec : {M : Type 1} → statement M
 run-event-spec = tie.close (tie.spec (λ c. search needs) (λ c κs. search needs) (λ c. search needs) (λ c κs. search needs) (λ c. search needs)
     (λ c κs. search needs) (λ c. search needs) (λ c κs. search needs) (λ c. search needs) (λ c κs. search needs) (λ c. search needs)
-    (λ c κs. search needs) (λ c. search needs) (λ c κs. search needs) (λ c. search needs) (λ c κs. search needs) returns returns-2 returns-3
-    returns-4 returns-5 returns-6 returns-7 returns-8)
+    (λ c κs. search needs) (λ c. search needs) (λ c κs. search needs) (λ c. search needs) (λ c κs. search needs) (λ c. search needs)
+    (λ c κs. search needs) returns returns-2 returns-3 returns-4 returns-5 returns-6 returns-7 returns-8 returns-9)

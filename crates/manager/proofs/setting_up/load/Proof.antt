@@ -1,7 +1,0 @@
--- `manager::setting_up::load` meets its contract.
-use Rattle.lists.proofs.Basics.{needs}
-use Rattle.manager.proofs.setting_up.load.Statement.{statement}
-use Rattle.manager.proofs.setting_up.load.Tie as tie
-
-pub load-spec : {M : Type 1} → statement M
-load-spec = tie.close (tie.spec (λ c κs. search needs) (λ c. simp (c .blank-state .ensures)))
