@@ -48,7 +48,7 @@ use Rattle.network_demands.proofs.Follows.{state-kept, Follows, follows
 use Rattle.network_demands.proofs.Running.{since-by, owed-by, stall-by, asked-first, first-stays, first-tick, none-run}
 use Rattle.network_demands.proofs.Way.{Cause, comingUp, busOff, stall, Way, away, stopping, starting, delayed, there, silenced}
 use Rattle.network_demands.proofs.Way.{wayIn, causeIn, wayOf, isThere, down-away, down-comes-up, way-away, delayBy, isStallCause, Late}
-use Rattle.network_demands.proofs.Way.{soonest, first-down-away, full-there, to-start, Starts, Running, Away, Stands, StandsAt, stands-same}
+use Rattle.network_demands.proofs.Way.{soonest, later, first-down-away, full-there, to-start, Starts, Running, Away, Stands, StandsAt, stands-same}
 use Rattle.network_demands.proofs.Way.{heard-stands, anew, nothing-since}
 
 -- ---- ticks
@@ -141,7 +141,6 @@ module _ (n : Network) (g : InRange n) (told : Mode) (asked : Bool) (answers : L
         record {
           all = λ c m. every-member (λ (c : ℕ). runs c q) c (controllersOf n) f m;
           soon = rw (now, i .why) (by-cause cause (tally ticked q) some (i .late));
-          later = rw now (omega (arith, some));
         },
         now,
       )
@@ -156,14 +155,13 @@ module _ (n : Network) (g : InRange n) (told : Mode) (asked : Bool) (answers : L
       by-cause stall ticks some l = omega (arith, l)
 
   -- once all run a tick changes nothing of that
+  first-still : (records : List Record) → Running n q x → firstRunning n (ticking records ∷ q) ≡ firstRunning n q
+  first-still records i = first-stays n (ticking records) q (omega (arith, later n q x i))
+
   still-running : (records : List Record) → Running n q x → Running n (ticking records ∷ q) x
   unfolding runs
   still-running records i =
-      let same = first-stays n (ticking records) q (omega (arith, i .later)) in
-      record { all = i .all; soon = rw same (i .soon); later = rw same (i .later) }
-
-  first-still : (records : List Record) → Running n q x → firstRunning n (ticking records ∷ q) ≡ firstRunning n q
-  first-still records i = first-stays n (ticking records) q (omega (arith, i .later))
+      record { all = i .all; soon = rw (first-still records i) (i .soon) }
 
   -- what a move makes of where the network stands
   abbrev After : Step → Mode → Move → Type 0
@@ -365,18 +363,18 @@ due-there n away asked answers count d w s x i = rw (i .0 .none) refl
 due-there n stopping asked answers count d w s x i = rw (i .0 .none) refl
 due-there n (starting cause) asked answers count d w s x i = rw (i .none) refl
 due-there n (delayed t) asked answers count d w s x i =
-    rw (lt-ltb 0 (firstRunning n s) (omega (arith, i .0 .later)), lt-leb (firstRunning n s + d) (tally ticked s) (omega (arith, i .2))) refl
+    rw (lt-ltb 0 (firstRunning n s) (omega (arith, later n s x (i .0))), lt-leb (firstRunning n s + d) (tally ticked s) (omega (arith, i .2))) refl
 due-there n there asked answers count d w s x i =
-    rw (lt-ltb 0 (firstRunning n s) (omega (arith, i .0 .later)), le-leb (firstRunning n s + d) (tally ticked s) (i .1), i .2) refl
+    rw (lt-ltb 0 (firstRunning n s) (omega (arith, later n s x (i .0))), le-leb (firstRunning n s + d) (tally ticked s) (i .1), i .2) refl
 due-there n silenced asked answers count d w s x i =
-    rw (lt-ltb 0 (firstRunning n s) (omega (arith, i .0 .later)), le-leb (firstRunning n s + d) (tally ticked s) (i .1), i .2) refl
+    rw (lt-ltb 0 (firstRunning n s) (omega (arith, later n s x (i .0))), le-leb (firstRunning n s + d) (tally ticked s) (i .1), i .2) refl
 
 sooner-not : (n : Network) (s : OwnHistory) (x : Bool) → firstRunning n s ≡ 0 → ltb 0 (firstRunning n s) ≡ leb (soonest x) (firstRunning n s)
 sooner-not n s true z = rw z refl
 sooner-not n s false z = rw z refl
 
 soon-enough : (n : Network) (s : OwnHistory) (x : Bool) → Running n s x → ltb 0 (firstRunning n s) ≡ leb (soonest x) (firstRunning n s)
-soon-enough n s x i = lt-ltb 0 (firstRunning n s) (omega (arith, i .later)) ∙ sym (le-leb (soonest x) (firstRunning n s) (i .soon))
+soon-enough n s x i = lt-ltb 0 (firstRunning n s) (omega (arith, later n s x i)) ∙ sym (le-leb (soonest x) (firstRunning n s) (i .soon))
 
 -- a tick before which all run is never the first since the setback, and after a stall never the second
 not-sooner : (n : Network) (way : Way) (asked : Bool) (answers : List Heard) (count d w : ℕ) (s : OwnHistory) (x : Bool)
@@ -446,10 +444,10 @@ module _ (n : Network) (g : InRange n) (f : Distinct (controllersOf n)) (h : Own
             → Stands n (wayIn phase timer) (w .asked) (w .answers) (w .count) q (owed n h) (wantedAtTick h) (afterStall n h) → ⊥
         not-else Phase.Off timer i = omega (arith, o, i .0 .delay)
         not-else Phase.Rising timer i = omega (arith, o, i .0 .delay)
-        not-else Phase.Checking timer i = omega (arith, z, i .0 .later)
-        not-else Phase.Full timer i = omega (arith, z, i .0 .later)
-        not-else Phase.Recovering timer i = omega (arith, z, i .0 .later)
-        not-else Phase.Silent timer i = omega (arith, z, i .0 .later)
+        not-else Phase.Checking timer i = omega (arith, z, later n q (afterStall n h) (i .0))
+        not-else Phase.Full timer i = omega (arith, z, later n q (afterStall n h) (i .0))
+        not-else Phase.Recovering timer i = omega (arith, z, later n q (afterStall n h) (i .0))
+        not-else Phase.Silent timer i = omega (arith, z, later n q (afterStall n h) (i .0))
         not-else Phase.Falling timer i = omega (arith, o, i .0 .delay)
         not-else Phase.Resetting timer i = omega (arith, o, i .0 .delay)
 

@@ -184,10 +184,6 @@ Late stall ticks = 2 ≤ ticks
 abbrev pub soonest : Bool → ℕ
 soonest x = cond x 3 2
 
-pub not-first : (x : Bool) → 2 ≤ soonest x
-not-first true = omega arith
-not-first false = omega arith
-
 -- starting: asked exactly since the first tick of s; each controller was asked with it, and runs exactly if its last answer is ok
 pub record Starts (n : Network) (cause : Cause) (asked : Bool) (answers : List Heard) (count : ℕ) (s : OwnHistory) (d : ℕ) (x : Bool) : Type 0 where
   pub none : firstRunning n s ≡ 0
@@ -202,7 +198,11 @@ pub record Starts (n : Network) (cause : Cause) (asked : Bool) (answers : List H
 pub record Running (n : Network) (s : OwnHistory) (x : Bool) : Type 0 where
   pub all : (c : ℕ) → member c (controllersOf n) ≡ true → runs c s ≡ true
   pub soon : soonest x ≤ firstRunning n s
-  pub later : 2 ≤ firstRunning n s
+
+-- so it is never the first
+pub later : (n : Network) (s : OwnHistory) (x : Bool) → Running n s x → 2 ≤ firstRunning n s
+later n s true i = omega (arith, i .soon)
+later n s false i = i .soon
 
 -- away no controller was asked to start, and no delay is owed
 pub record Away (n : Network) (s : OwnHistory) (d : ℕ) : Type 0 where
@@ -248,7 +248,7 @@ module _ (n : Network) (e : Seen) (s : OwnHistory) (t : ticked e ≡ false) (a :
   ticks-same = rw t refl
 
   running-same : (x : Bool) → Running n s x → Running n (e ∷ s) x
-  running-same x i = record { all = λ c m. r c m ∙ i .all c m; soon = rw first-same (i .soon); later = rw first-same (i .later) }
+  running-same x i = record { all = λ c m. r c m ∙ i .all c m; soon = rw first-same (i .soon) }
 
   away-same : (d : ℕ) → Away n s d → Away n (e ∷ s) d
   away-same d i = record { none = first-same ∙ i .none; delay = i .delay; unasked = λ c m. a c ∙ i .unasked c m }
