@@ -12,7 +12,9 @@ enum { ASK_NOTHING, ASK_CONTROLLERS, ASK_TRANSCEIVER, ASK_CLEAR, ASK_CHECK };
 /* H5 to H12: the kinds of records. */
 enum { CONTROLLER = 1, TRANSCEIVER, PDU, CLEAR, CHECK, TELL, NOTE, REPORT };
 /* R7, R9 to R15: the refusals of these calls. */
-enum { NOT_READY = 1, NO_HANDLE = 3, NO_CONTROLLER, NO_TRANSCEIVER, NOT_UP = 8, TOO_SHORT = 0x20, OUT_OF_RANGE, NOT_TAKEN };
+enum {
+    NOT_READY = 1, NO_HANDLE = 3, NO_CONTROLLER, NO_TRANSCEIVER, ASLEEP = 8, TOO_SHORT = 0x20, OUT_OF_RANGE, NOT_TAKEN, COMING_UP = 0x24, GOING_DOWN
+};
 
 /* N1, N10: what each step asks for. */
 static const uint8_t ASKS[] = {
@@ -308,16 +310,23 @@ uint8_t manager_check_done(struct manager *manager, uint8_t id) {
     return found ? report(manager, found, ASK_CHECK, 0) : NO_TRANSCEIVER;
 }
 
-/* R7, R10, R13, R14, N14: the wanted mode is stored. */
+/* N15, R14, R22, R23: silent is taken while the network is up; else it is asleep, comes up or goes down. */
+static inline uint8_t answer_to_silent(uint8_t step) {
+    if (is_up(step)) return 0;
+    if (step == NO_COMMUNICATION) return ASLEEP;
+    return step <= CONTROLLERS_STARTED ? COMING_UP : GOING_DOWN;
+}
+
+/* R7, R10, R13, N14: the wanted mode is stored. */
 uint8_t manager_request(struct manager *manager, uint8_t handle, uint8_t mode) {
     if (!manager->started) return NOT_READY;
     unsigned found = manager->by_handle[handle];
     if (!found) return NO_HANDLE;
     if (mode > FULL) return OUT_OF_RANGE;
     struct network *network = &manager->network[found - 1];
-    if (mode == SILENT && !is_up(network->step)) return NOT_UP;
-    network->wanted = mode;
-    return 0;
+    uint8_t answer = mode == SILENT ? answer_to_silent(network->step) : 0;
+    if (!answer) network->wanted = mode;
+    return answer;
 }
 
 static uint16_t number(const uint8_t *at) { return (uint16_t)(at[0] << 8 | at[1]); }

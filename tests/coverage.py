@@ -72,7 +72,7 @@ SHEET_REFUSALS = tuple(range(Refusal.SHEET_CUT, Refusal.SHEET_NO_NETWORK + 1))
 POSSIBLE_ANSWERS = {
     CONFIG: (model.ACCEPTED, *SHEET_REFUSALS),
     EventTag.REQUEST: (
-        model.ACCEPTED, Refusal.UNKNOWN_HANDLE, Refusal.SILENT_NOT_NOW, Refusal.VALUE_OUT_OF_RANGE,
+        model.ACCEPTED, Refusal.UNKNOWN_HANDLE, Refusal.VALUE_OUT_OF_RANGE, Refusal.ASLEEP, Refusal.COMING_UP, Refusal.GOING_DOWN,
     ),
     EventTag.BUS_OFF: (model.ACCEPTED, Refusal.UNKNOWN_CONTROLLER, Refusal.NOT_TAKEN),
     EventTag.CONTROLLER_ANSWER: (
@@ -135,7 +135,7 @@ def contradiction(situation: Situation) -> str:
     """Why no record of a network is as this situation says, whatever its outfit; empty where one can be."""
     step = situation.step
     if situation.wanted == Mode.SILENT and step not in model.UP_STEPS:
-        return "silent is wanted only while a network is up (refusal 08, and wanted no goes before a shutdown)"
+        return "silent is wanted only while a network is up (refusals 08, 24 and 25, and wanted no goes before a shutdown)"
     if situation.done and step not in model.ASKING_STEPS:
         return "a step that asks nothing is not done"
     if situation.refusal_present and step not in model.CONTROLLER_MODE_OF_STEP:

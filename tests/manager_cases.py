@@ -115,7 +115,7 @@ BENCH_CASES = [
     ],
     # E10: an answer "started" after the bus-off and before the next tick. It is no answer to what the tick then asks.
     [*begun(SHEET), *DOWN, *UP, BUS_OFF, *answers([3], 1), TICK, TICK, *answers([3], 1), TICK],
-    # E11: silent asked for in step 0, and in steps 2 and 3; then in step 4.
+    # E11: silent asked for in step 0, and in steps 2 and 3, which is 24; then in step 4.
     [
         *begun(SHEET), *DOWN, ("request", 7, 1), ("request", 7, 2), TICK, ("request", 7, 1), *answers([3], 0), TICK,
         ("request", 7, 1), *answers([3], 1), TICK, ("request", 7, 1), TICK, ("poll", 7), ("request", 7, 1), TICK,
@@ -152,7 +152,7 @@ REFUSALS = [
         ("bus-off", 3, 8), ("bus-off", 3, 9), *answers([3], 1), TICK, *answers([3], 1), TICK, ("bus-off", 3, 8),
         ("bus-off", 3, 9), ("bus-off", 3, 255),
     ],
-    # Request: 03 before 21 before 08; an unknown handle with a good mode; the highest mode and the lowest.
+    # Request: 03 before 21 before 25; an unknown handle with a good mode; the highest mode and the lowest.
     [
         *begun(SHEET), ("request", 3, 3), ("request", 3, 1), ("request", 3, 2), ("request", 7, 3), ("request", 7, 255),
         ("request", 7, 1), ("request", 7, 2), ("request", 7, 0),
@@ -340,9 +340,43 @@ STALLS = [
     ],
 ]
 
+SILENT = ("request", 7, 1)
+
+SILENT_TOLD_APART = [
+    # Silent goes by the step and by nothing else: 25 from the start on, asked or not, answered or not, whatever is wanted; 08 at rest, also
+    # where full is wanted and no tick has come; 24 from that tick on, after a bus-off in step 3 too. What is refused is not stored.
+    [
+        *begun(SHEET), SILENT, TICK, SILENT, *answers([3], 0), SILENT, ("request", 7, 2), SILENT, ("request", 7, 0), TICK, SILENT,
+        *answers([3], 2), SILENT, TICK, SILENT, TICK, SILENT, ("request", 7, 2), SILENT, ("request", 7, 3), ("request", 3, 1), TICK, SILENT,
+        *answers([3], 0), SILENT, TICK, SILENT, *answers([3], 1), SILENT, BUS_OFF, SILENT, TICK, *answers([3], 1), SILENT, TICK, ("poll", 7),
+    ],
+    # No wanted while it comes up: 24 until the tick that goes down, 25 after it. While up it is taken, the last word counts, and the tick
+    # that goes down makes it 25.
+    [
+        *begun(SHEET), *DOWN, ("request", 7, 2), TICK, ("request", 7, 0), SILENT, TICK, SILENT, *answers([3], 0), TICK, *answers([3], 2),
+        TICK, SILENT, *UP, SILENT, ("request", 7, 0), TICK, SILENT, ("poll", 7), *answers([3], 0), TICK, SILENT, *answers([3], 2), SILENT,
+        TICK, SILENT, ("poll", 7),
+    ],
+    # With partial networking: 25 in 9 to 13, and through 14, with sleep refused, back in 9.
+    [
+        *begun(PARTIAL), ("request", 20, 1), TICK, ("request", 20, 1), ("clear", 5), TICK, ("request", 20, 1), *answers([30, 1], 0), TICK,
+        ("request", 20, 1), ("transceiver", 5, 1), TICK, ("request", 20, 1), *answers([30, 1], 2, 0), TICK, ("request", 20, 1),
+        ("check", 5), TICK, ("request", 20, 1), ("clear", 5), TICK, *answers([30, 1], 0), TICK, ("transceiver", 5, 1), TICK,
+        *answers([30, 1], 2), TICK, ("request", 20, 1), ("check", 5), TICK, ("request", 20, 1), ("request", 20, 2), TICK,
+        ("request", 20, 1), ("transceiver", 5, 0), TICK, ("request", 20, 1),
+    ],
+    # Two networks: one is at rest while the other goes down, comes up while the other rests, and is up while the other comes up.
+    [
+        *begun(PAIR), TICK, *answers([10, 11], 0), TICK, *answers([10, 11], 2), TICK, ("request", 1, 1), ("request", 2, 1),
+        ("request", 1, 2), TICK, ("request", 1, 1), ("request", 2, 1), *answers([10, 11, 12, 0], 0), TICK, *answers([10, 11], 1),
+        *answers([12, 0], 2), TICK, ("request", 1, 1), ("request", 2, 1), ("transceiver", 3, 1), TICK, ("request", 1, 1),
+        ("request", 2, 1), ("request", 2, 2), TICK, ("request", 1, 0), ("request", 2, 1), TICK, ("request", 1, 1), ("request", 2, 1),
+    ],
+]
+
 CALLS = [
     call
-    for cases in (WHOLE_CASE, BENCH_CASES, REFUSALS, PARTIAL_NETWORKING, TWO_NETWORKS, STALLS)
+    for cases in (WHOLE_CASE, BENCH_CASES, REFUSALS, PARTIAL_NETWORKING, TWO_NETWORKS, STALLS, SILENT_TOLD_APART)
     for case in cases
     for call in case
 ]

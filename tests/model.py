@@ -29,8 +29,8 @@ class Refusal:
     UNKNOWN_CONTROLLER = 0x04
     # R12: no network has the transceiver
     UNKNOWN_TRANSCEIVER = 0x05
-    # R14: silent is asked for, and the network is not up
-    SILENT_NOT_NOW = 0x08
+    # R14: silent is asked for, and the network is in step 0
+    ASLEEP = 0x08
     # R8: the manager runs already
     ALREADY_STARTED = 0x0B
     # R9: too few bytes were lent
@@ -39,6 +39,10 @@ class Refusal:
     VALUE_OUT_OF_RANGE = 0x21
     # R15: the step does not take the answer, the report, the bus-off or the stall
     NOT_TAKEN = 0x22
+    # R22: silent is asked for, and the network comes up
+    COMING_UP = 0x24
+    # R23: silent is asked for, and the network goes down
+    GOING_DOWN = 0x25
     # S15, S18, S26: the bytes end too early
     SHEET_CUT = 0x30
     # S16: the tag is none of the table
@@ -278,6 +282,7 @@ ASKING_STEPS = (1, 2, 3, 6, 9, 10, 11, 12, 13, 14, 15, 16)
 COMING_UP_STEPS = (1, 2, 3)
 # N4: the steps in which a network is up
 UP_STEPS = (4, 5, 6, 7, 8, 15, 16)
+GOING_DOWN_STEPS = (9, 10, 11, 12, 13, 14)
 # X2: the steps that take a stall
 STALL_STEPS = (4, 5)
 
@@ -895,6 +900,21 @@ def takes_bus_off(network: NetworkRecord) -> bool:
     return network.step in UP_STEPS or network.step == Step.CONTROLLERS_STARTED
 
 
+def answer_to_silent(step: int) -> int:
+    """What a request for silent is answered with in this step."""
+    # N15: silent may be asked for while the network is up, which a recovery is
+    if step in UP_STEPS:
+        return ACCEPTED
+    # R22: in steps 1 to 3 it comes up
+    if step in COMING_UP_STEPS:
+        return Refusal.COMING_UP
+    # R23: in steps 9 to 14 it goes down
+    if step in GOING_DOWN_STEPS:
+        return Refusal.GOING_DOWN
+    # R14: step 0 alone is left
+    return Refusal.ASLEEP
+
+
 def stall_network(network: NetworkRecord) -> List[Record]:
     """What a stall does to a network in a step that takes it."""
     # X3, X4: step 15, which has not asked; the count of bus-offs and the wanted mode stay
@@ -1071,9 +1091,10 @@ class Manager:
         # R13: there is no such mode
         if mode > Limit.MODE:
             return refused(Refusal.VALUE_OUT_OF_RANGE)
-        # N15, R14: silent may be asked for while the network is up, which a recovery is
-        if mode == Mode.SILENT and network.step not in UP_STEPS:
-            return refused(Refusal.SILENT_NOT_NOW)
+        # N15: no and full may be asked for in every step
+        answer = answer_to_silent(network.step) if mode == Mode.SILENT else ACCEPTED
+        if answer != ACCEPTED:
+            return refused(answer)
         # N14: the mode is stored, and nothing else happens
         network.wanted = mode
         return Outcome(ACCEPTED)

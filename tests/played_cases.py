@@ -971,3 +971,76 @@ def stall_cases() -> Iterator[Case]:
     yield Case("eight networks stalled", stalls_together(*LARGEST))
     yield Case("a stall beside others", stall_beside_others())
     yield Case("the largest ticks of a reset", largest_resets())
+
+
+# ---------------------------------------------------------------------------
+# Silent: which of its refusals is given
+# ---------------------------------------------------------------------------
+
+
+def silent_all_the_way(outfit: int) -> bytes:
+    """From the start to rest, up to full and down again: silent is asked for before each tick, and then what was wanted before."""
+    trace = Trace(OF_OUTFIT[outfit])
+    for wish in (Mode.NO, Mode.FULL, Mode.NO):
+        for _ in range(8):
+            trace.want(Mode.SILENT)
+            trace.want(wish)
+            trace.replied_tick()
+    trace.poll()
+    return trace.recorded()
+
+
+def silent_before_the_first_tick_up(outfit: int) -> bytes:
+    """Full is wanted at rest: until a tick comes the network is asleep, and from that tick on it comes up."""
+    trace = Trace(OF_OUTFIT[outfit])
+    trace.go_to(Step.NO_COMMUNICATION)
+    trace.want(Mode.FULL)
+    trace.want(Mode.SILENT)
+    trace.tick()
+    trace.want(Mode.SILENT)
+    return trace.recorded()
+
+
+def silent_after_no(outfit: int) -> bytes:
+    """No is wanted in each step that comes up: silent is refused as before, until a tick makes the network go down."""
+    trace = Trace(OF_OUTFIT[outfit])
+    for step in sorted(coverage.reachable_steps(outfit) & set(model.COMING_UP_STEPS)):
+        trace.go_to(step)
+        trace.want(Mode.NO)
+        trace.want(Mode.SILENT)
+        trace.tick()
+        trace.want(Mode.SILENT)
+    return trace.recorded()
+
+
+def silent_of_each(trace: Trace) -> None:
+    """Silent is asked for of every network, and then what was wanted of it before."""
+    for index, record in enumerate(trace.manager.networks):
+        before = record.wanted
+        trace.want(Mode.SILENT, index)
+        trace.want(before, index)
+
+
+def silent_beside_others(*networks: model.Settings) -> bytes:
+    """Networks that are called up one after the other, and down in the same order: each answers by its own step."""
+    trace = Trace(*networks)
+    for wish in (Mode.FULL, Mode.NO):
+        for index in range(len(networks)):
+            trace.want(wish, index)
+            for _ in range(3):
+                trace.replied_tick()
+                silent_of_each(trace)
+    poll_all(trace)
+    return trace.recorded()
+
+
+def silent_cases() -> Iterator[Case]:
+    """Silent asked for through a whole life of each outfit, at the borders between its answers, and of many networks at once."""
+    for outfit, name in coverage.OUTFIT_NAMES.items():
+        yield Case(f"{name}, silent asked for all the way", silent_all_the_way(outfit))
+        yield Case(f"{name}, silent before the first tick up", silent_before_the_first_tick_up(outfit))
+        yield Case(f"{name}, silent after no was wanted", silent_after_no(outfit))
+    bare, fitted, partial = OF_OUTFIT.values()
+    yield Case("silent asked for of two networks", silent_beside_others(partial, bare))
+    yield Case("silent asked for of three networks", silent_beside_others(bare, fitted, partial))
+    yield Case("silent asked for of eight networks", silent_beside_others(*LARGEST))

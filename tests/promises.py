@@ -357,12 +357,25 @@ def broken_by_answer(words: Words, entry: Seen, before: History) -> List[str]:
     elif entry.sight in (CLEARED, CHECKED):
         kind = Kind.CLEAR_WAKE_FLAG if entry.sight == CLEARED else Kind.CHECK_WAKE_FLAG
         due = words.awaited(kind, entry.values[0], 0, before)
-    elif entry.sight == REQUEST:
-        due = entry.values[1] <= Limit.MODE and (entry.values[1] != Mode.SILENT or words.up(before))
-        return [] if entry.accepted == due else ["request-accepted"]
     else:
         return []
     return [] if entry.accepted == due else ["answer-taken"]
+
+
+def broken_by_request(words: Words, entry: Seen, before: History) -> List[str]:
+    """Which requests are accepted, and exactly when each of their refusals is given."""
+    if entry.sight != REQUEST:
+        return []
+    mode = entry.values[1]
+    silent = mode == Mode.SILENT
+    due = {
+        "request-accepted": (ACCEPTED, mode <= Limit.MODE and (not silent or words.up(before))),
+        "request-out-of-range": (Refusal.VALUE_OUT_OF_RANGE, mode > Limit.MODE),
+        "silent-asleep": (Refusal.ASLEEP, silent and words.rested(before) and not words.on(before)),
+        "silent-coming-up": (Refusal.COMING_UP, silent and words.on(before) and not words.up(before)),
+        "silent-going-down": (Refusal.GOING_DOWN, silent and not words.rested(before)),
+    }
+    return [name for name, (number, holds) in due.items() if (entry.answer == number) != holds]
 
 
 def broken_by_full(words: Words, entry: Seen, before: History) -> List[str]:
@@ -435,7 +448,9 @@ def broken_by_start(words: Words, entry: Seen, before: History) -> List[str]:
 
 
 STATEMENTS_OF_A_HISTORY = (broken_by_told, broken_by_delay, broken_by_good_times)
-STATEMENTS_OF_AN_ENTRY = (broken_by_bus_off, broken_by_stall, broken_by_answer, broken_by_full, broken_by_down, broken_by_start)
+STATEMENTS_OF_AN_ENTRY = (
+    broken_by_bus_off, broken_by_stall, broken_by_answer, broken_by_request, broken_by_full, broken_by_down, broken_by_start,
+)
 
 
 def broken(network: Settings, history: History) -> Optional[Tuple[int, List[str]]]:

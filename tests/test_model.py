@@ -6,6 +6,7 @@ The expected values here are written by hand from the rules; none is made by the
 
 import random
 import unittest
+from copy import deepcopy
 
 import model
 import sheet_cases
@@ -304,7 +305,7 @@ class Program(unittest.TestCase):
         self.assertEqual(self.after_bench_sheet("160000 160000 17000108").splitlines()[3], "3 3 0")
 
     def test_refusals_are_decimal(self):
-        expected = ["config 0 1", "1 3", "2 33", "3 8", "4 4", "5 34", "6 5", "7 5", "8 5", "9 3", "10 34"]
+        expected = ["config 0 1", "1 3", "2 33", "3 37", "4 4", "5 34", "6 5", "7 5", "8 5", "9 3", "10 34"]
         events = "1000020802 1000020703 1000020701 11000104 11000103 1300020000 14000100 15000100 18000108 18000107"
         self.assertEqual(self.after_bench_sheet(events).splitlines(), expected)
 
@@ -550,7 +551,7 @@ class RefusalOrder(unittest.TestCase):
         self.assertEqual(self.manager.request(7, 3).answer, 0x03)
         self.assertEqual(self.manager.request(9, 3).answer, 0x21)
         self.assertEqual(self.manager.request(9, 255).answer, 0x21)
-        self.assertEqual(self.manager.request(9, 1).answer, 0x08)
+        self.assertEqual(self.manager.request(9, 1).answer, 0x25)
         self.assertEqual(self.manager.request(9, 2).answer, 0)
         self.assertEqual(self.manager.request(9, 0).answer, 0)
 
@@ -641,7 +642,22 @@ class StepsAndCalls(unittest.TestCase):
         for step in range(17):
             with self.subTest(step=step):
                 answer = box_in_step(step, PARTIAL_SHEET).manager.request(9, 1).answer
-                self.assertEqual(answer, 0 if step in UP_STEPS else 0x08)
+                due = 0x08 if step == 0 else 0x24 if step <= 3 else 0x25 if 9 <= step <= 14 else 0
+                self.assertEqual(answer, due)
+
+    def test_only_silent_goes_by_the_step(self):
+        for step in range(17):
+            for mode, due in ((0, 0), (2, 0), (3, 0x21), (255, 0x21)):
+                with self.subTest(step=step, mode=mode):
+                    self.assertEqual(box_in_step(step, PARTIAL_SHEET).manager.request(9, mode).answer, due)
+
+    def test_silent_that_is_refused_changes_nothing(self):
+        for step in (0, 1, 2, 3, 9, 10, 11, 12, 13, 14):
+            box = box_in_step(step, PARTIAL_SHEET)
+            before = deepcopy(box.manager.networks)
+            self.assertNotEqual(box.manager.request(9, 1).answer, 0)
+            with self.subTest(step=step):
+                self.assertEqual(box.manager.networks, before)
 
     def test_nothing_is_taken_before_it_is_asked(self):
         self.assertEqual(Box().manager.controller_answer(3, 0, 1).answer, 0x22)

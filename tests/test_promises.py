@@ -212,6 +212,8 @@ real_begin_waiting = model.begin_waiting
 real_enter_full = model.enter_full
 real_timer = model.timer_is_reached
 real_enter_silent = model.enter_silent
+real_answer_to_silent = model.answer_to_silent
+real_request = model.Manager.request
 real_tick = model.Manager.tick
 real_manager_bus_off = model.Manager.bus_off
 real_answer = model.Manager.controller_answer
@@ -408,13 +410,41 @@ def stall_in_a_short_buffer(self, handle, lent):
 
 
 def stall_refused_otherwise(self, handle, lent):
-    """A stall that the step does not take has the number of silent that is asked for too early."""
+    """A stall that the step does not take has the number of silent that is asked for at rest."""
     outcome = real_manager_stall(self, handle, lent)
-    return model.refused(Refusal.SILENT_NOT_NOW) if outcome.answer == Refusal.NOT_TAKEN else outcome
+    return model.refused(Refusal.ASLEEP) if outcome.answer == Refusal.NOT_TAKEN else outcome
 
 
 def stall_taken_for_a_bus_off(network):
     return real_bus_off(network)
+
+
+def one_number_for_every_silent(step):
+    """What a box did before the three refusals were told apart."""
+    return model.ACCEPTED if step in model.UP_STEPS else Refusal.ASLEEP
+
+
+def coming_up_and_going_down_swapped(step):
+    swapped = {Refusal.COMING_UP: Refusal.GOING_DOWN, Refusal.GOING_DOWN: Refusal.COMING_UP}
+    answer = real_answer_to_silent(step)
+    return swapped.get(answer, answer)
+
+
+def silent_answered_in(place, number):
+    """In this one step silent has another answer."""
+    return lambda step: number if step == place else real_answer_to_silent(step)
+
+
+def full_refused_at_rest(self, handle, mode):
+    """Full has the number of silent that is asked for at rest."""
+    network = self.network_of_handle(handle)
+    at_rest = network is not None and network.step == Step.NO_COMMUNICATION
+    return model.refused(Refusal.ASLEEP) if at_rest and mode == Mode.FULL else real_request(self, handle, mode)
+
+
+def unknown_mode_taken_for_silent(self, handle, mode):
+    """A mode that there is not is answered as silent is."""
+    return real_request(self, handle, mode if mode <= Limit.MODE else Mode.SILENT)
 
 
 WRONG_BOXES: Dict[str, Tuple[Dict[str, object], Dict[str, object], Set[str]]] = {
@@ -460,6 +490,18 @@ WRONG_BOXES: Dict[str, Tuple[Dict[str, object], Dict[str, object], Set[str]]] = 
     "a stall in a short buffer is accepted": ({}, {"stall": stall_in_a_short_buffer}, {"stall-records"}),
     "a stall is refused by another number": ({}, {"stall": stall_refused_otherwise}, {"stall-accepted"}),
     "a stall is taken for a bus-off": ({"stall_network": stall_taken_for_a_bus_off}, {}, {"stall-records"}),
+    "one number for every silent": ({"answer_to_silent": one_number_for_every_silent}, {}, {"silent-asleep"}),
+    "coming up and going down swapped": (
+        {"answer_to_silent": coming_up_and_going_down_swapped}, {}, {"silent-coming-up", "silent-going-down"},
+    ),
+    "asleep in step 1": ({"answer_to_silent": silent_answered_in(Step.TRANSCEIVER_NORMAL, Refusal.ASLEEP)}, {}, {"silent-asleep"}),
+    "coming up in step 0": ({"answer_to_silent": silent_answered_in(Step.NO_COMMUNICATION, Refusal.COMING_UP)}, {}, {"silent-coming-up"}),
+    "going down in step 8": ({"answer_to_silent": silent_answered_in(Step.SILENT, Refusal.GOING_DOWN)}, {}, {"silent-going-down"}),
+    "asleep in the last step of a shutdown": (
+        {"answer_to_silent": silent_answered_in(Step.CHECK_WAKE, Refusal.ASLEEP)}, {}, {"silent-asleep"},
+    ),
+    "full is refused at rest": ({}, {"request": full_refused_at_rest}, {"silent-asleep"}),
+    "a mode above 2 is taken for silent": ({}, {"request": unknown_mode_taken_for_silent}, {"request-out-of-range"}),
 }
 # These are tried first: random lives show some of it late.
 ARRANGED_LIVES = (there_and_back, stalls_and_falls, stalls_and_wishes, short_stall)

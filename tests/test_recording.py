@@ -486,7 +486,9 @@ CALL_REFUSALS = {
     Refusal.UNKNOWN_CONTROLLER: "refused: 0x04, unknown controller",
     Refusal.UNKNOWN_TRANSCEIVER: "refused: 0x05, unknown transceiver",
     Refusal.VALUE_OUT_OF_RANGE: "refused: 0x21, a mode or ok value is out of its range",
-    Refusal.SILENT_NOT_NOW: "refused: 0x08, silent is asked for, and the network is not up (steps 4 to 8, 15, 16)",
+    Refusal.ASLEEP: "refused: 0x08, silent is wanted while the network is asleep (step 0)",
+    Refusal.COMING_UP: "refused: 0x24, silent is wanted while the network comes up (steps 1 to 3)",
+    Refusal.GOING_DOWN: "refused: 0x25, silent is wanted while the network goes down (steps 9 to 14)",
     Refusal.NOT_TAKEN: "refused: 0x22, an answer, bus-off or stall that the step does not take",
 }
 
@@ -600,6 +602,22 @@ class ExplainTest(unittest.TestCase):
         self.assertEqual([row[-1] for row in found[1:]], [
             "accepted: stored, and the next tick looks at it", "taken", "accepted: nothing is handed out", "accepted: nothing is handed out",
             "the mode last told: no communication", "the mode last told: silent", "the mode last told: full", "refused: 0x03, unknown handle",
+        ])
+
+    def test_refused_silent(self):
+        """After the start, at rest and while it comes up; what is said is told apart, and what to do about it."""
+        down = "tick\nanswer 3 stopped ok\ntick\nanswer 3 sleep ok\ntick\n"
+        data = SHEET + written("want 7 silent\n" + down + "want 7 silent\nwant 7 full\ntick\nwant 7 silent\nwant 8 silent\nwant 7 mode 3")
+        found = [row for row in explained(data, model.cantrace(data)) if not row[-1].startswith(("accepted", "taken", "ask c", "tell"))]
+        self.assertEqual(found, [
+            ["1 37", "silent is wanted of network 7", CALL_REFUSALS[Refusal.GOING_DOWN]],
+            ["", "wait until no is told, then ask for full; when full is told, ask for silent"],
+            ["7 8", "silent is wanted of network 7", CALL_REFUSALS[Refusal.ASLEEP]],
+            ["", "ask for full first; when full is told, ask for silent"],
+            ["10 36", "silent is wanted of network 7", CALL_REFUSALS[Refusal.COMING_UP]],
+            ["", "wait; when full is told, ask for silent again"],
+            ["11 3", "silent is wanted of network 8", CALL_REFUSALS[Refusal.UNKNOWN_HANDLE]],
+            ["12 33", "mode 3 is wanted of network 7", CALL_REFUSALS[Refusal.VALUE_OUT_OF_RANGE]],
         ])
 
     def test_refused_stalls(self):

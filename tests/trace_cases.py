@@ -35,6 +35,7 @@ GROUPS: List[Callable[[], Iterator[Case]]] = [
     played_cases.reset_cases,
     played_cases.stall_cases,
     damaged_cases.bad_stall_cases,
+    played_cases.silent_cases,
 ]
 
 

@@ -5,7 +5,7 @@ from typing import List, NamedTuple, Set
 from recording_fields import FIRST_EVENT_TAG, LONGEST_RECORDING, Fault, Field, Tag
 from recording_output import ACCEPTED, EVENTS_WITH_RECORDS, TOO_LONG, ConfigLine, EventLine, Output, Recording, ids_in, read_output
 from recording_script import field_line
-from recording_words import CALL_REFUSALS, MODE_WORDS, OF_A_RESET, SHEET_REFUSALS, STALL_ADVICE, STALL_OUTLOOK, Kind, Record
+from recording_words import ADVICE, CALL_REFUSALS, MODE_WORDS, OF_A_RESET, SHEET_REFUSALS, STALL_OUTLOOK, Kind, Record
 from recording_words import event_words, record_words
 
 WIDEST_LINE = 28
@@ -84,11 +84,9 @@ class Resets:
 
 
 def refusal_meanings(event: EventLine) -> List[str]:
-    """Why an event is refused, and of a stall what to do."""
-    meanings = [refusal_words(event.answer, CALL_REFUSALS[event.answer])]
-    if event.field.tag == Tag.STALL and event.answer in STALL_ADVICE:
-        meanings.append(STALL_ADVICE[event.answer])
-    return meanings
+    """Why an event is refused, and of silent and of a stall what to do."""
+    advice = ADVICE.get(event.field.tag, {}).get(event.answer)
+    return [refusal_words(event.answer, CALL_REFUSALS[event.answer])] + ([] if advice is None else [advice])
 
 
 def event_meanings(resets: Resets, event: EventLine) -> List[str]:

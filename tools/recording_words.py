@@ -49,14 +49,25 @@ CALL_REFUSALS = {
     0x04: "unknown controller",
     0x05: "unknown transceiver",
     0x21: "a mode or ok value is out of its range",
-    0x08: "silent is asked for, and the network is not up (steps 4 to 8, 15, 16)",
+    0x08: "silent is wanted while the network is asleep (step 0)",
+    0x24: "silent is wanted while the network comes up (steps 1 to 3)",
+    0x25: "silent is wanted while the network goes down (steps 9 to 14)",
     0x22: "an answer, bus-off or stall that the step does not take",
 }
-# R9, R10, R15: what to do about a stall that is refused.
-STALL_ADVICE = {
-    0x20: "it has not happened: lend 3 bytes or more, and make it again",
-    0x03: "compare the caller's handles with the sheet",
-    0x22: "it is taken only while full is told: if sending sticks then, make it again",
+# By the event that is refused, what to do about it.
+ADVICE = {
+    # R14, R22, R23: of silent.
+    Tag.REQUEST: {
+        0x08: "ask for full first; when full is told, ask for silent",
+        0x24: "wait; when full is told, ask for silent again",
+        0x25: "wait until no is told, then ask for full; when full is told, ask for silent",
+    },
+    # R9, R10, R15: of a stall.
+    Tag.STALL: {
+        0x20: "it has not happened: lend 3 bytes or more, and make it again",
+        0x03: "compare the caller's handles with the sheet",
+        0x22: "it is taken only while full is told: if sending sticks then, make it again",
+    },
 }
 # X3: what a stall brings.
 STALL_OUTLOOK = "the next tick asks all its controllers to stop, a later one to start"

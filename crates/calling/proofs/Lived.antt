@@ -1,8 +1,10 @@
 -- What code got back is what the definitions of the calls give: the histories that it notes are those of which the demands speak.
-use Rattle.lists.proofs.Basics.{ℕ, _≤_, arith, _≡_, refl, sym, ap, subst, _∙_, List, [], _∷_, _++_, Bool, cond, true≢false}
+use Rattle.lists.proofs.Basics.{ℕ, _≤_, arith, _≡_, refl, sym, ap, subst, _∙_, List, [], _∷_, _++_, Bool, cond, true≢false, false≢true}
+use Rattle.lists.proofs.Basics.{eqb}
 use Rattle.lists.specs.Lists.{Bytes}
 use Rattle.records.specs.Records.{recordsAt}
 use Rattle.entries.specs.declared.Fault.{Fault}
+use Rattle.network_theorems.proofs.Parts.{refusal-refuses}
 use Rattle.slots.specs.declared.Answer.{Answer}
 use Rattle.slots.specs.declared.Manager.{Manager}
 use Rattle.slots.specs.declared.Outcome.{Outcome}
@@ -127,9 +129,7 @@ number-accepted Answer.TooShort e = absurd (omega (arith, e))
 number-accepted Answer.NoHandle e = absurd (omega (arith, e))
 number-accepted Answer.NoController e = absurd (omega (arith, e))
 number-accepted Answer.NoTransceiver e = absurd (omega (arith, e))
-number-accepted Answer.OutOfRange e = absurd (omega (arith, e))
-number-accepted Answer.NotUp e = absurd (omega (arith, e))
-number-accepted Answer.NotTaken e = absurd (omega (arith, e))
+number-accepted (Answer.Network refusal) e = absurd (false≢true (sym (refusal-refuses refusal) ∙ ap (eqb 0) e))
 number-accepted (Answer.Sheet fault) e = absurd (omega (arith, fault-number fault, e))
   where
     fault-number : (f : Fault) → 0x30 ≤ answerNumber (Answer.Sheet f)

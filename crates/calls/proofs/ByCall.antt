@@ -15,11 +15,13 @@ use Rattle.sheet.specs.Reading.{decode}
 use Rattle.sheet.specs.Encode.{encode}
 use Rattle.network.specs.declared.Hit.{Hit}
 use Rattle.network.specs.declared.Part.{Part}
+use Rattle.network.specs.declared.Refusal.{Refusal}
 use Rattle.network.specs.declared.Reply.{Reply}
 use Rattle.network.specs.declared.Report.{Report}
 use Rattle.network.specs.declared.State.{State}
 use Rattle.network.specs.declared.Trouble.{Trouble}
-use Rattle.network.specs.Parts.{Sight, anAnswer, aRequest, aReport, nothing, sightOf, isTaken, outOfRange, reportPart, hitPart, partOf, recordsOf}
+use Rattle.network.specs.Replies.{replyNumber, isTaken}
+use Rattle.network.specs.Parts.{Sight, anAnswer, aRequest, aReport, nothing, sightOf, outOfRange, reportPart, hitPart, partOf, recordsOf}
 use Rattle.lists.proofs.Tests.{split}
 use Rattle.network_theorems.proofs.Parts.{by-request, by-report, by-answer, refused-stays}
 use Rattle.slots.specs.declared.Stage.{Stage}
@@ -92,19 +94,29 @@ module _ (m : Manager) (id : Id) (Q : Slot → Type 0)
 
 -- ---- the cases
 -- a refusal that can be the answer to the call
-pub record Refusal (c : Call) (a : Answer) : Type 0 where
+pub record CanRefuse (c : Call) (a : Answer) : Type 0 where
   pub refused : isAccepted a ≡ false
   pub among : member (answerNumber a) (refusalsOf c) ≡ true
+
+-- R1: the number of a network's reply is that of the manager's answer
+pub answer-number : (reply : Reply) → answerNumber (answerOf reply) ≡ replyNumber reply
+answer-number Reply.Taken = refl
+answer-number (Reply.Refused refusal) = refl
+
+-- a network's part is a refusal, and this is the manager's answer for it
+pub record Declines (part : Part) (a : Answer) : Type 0 where
+  pub refused : isTaken (part .reply) ≡ false
+  pub answer : a ≡ answerOf (part .reply)
 
 -- P call outcome records, for each way in which a call can end
 pub record ByCall (m : Manager) (P : Call → Outcome → List Record → Type 0) : Type 0 where
   -- it is refused before any network is asked: on a started manager none sees it
-  pub refuses : (c : Call) (a : Answer) → Refusal c a →
+  pub refuses : (c : Call) (a : Answer) → CanRefuse c a →
       (m .stage ≡ Stage.Started → (i : ℕ) → i < length (networksOf m) → seenAs (networkAt m i) (addressOf (answerNumber a) c) ≡ nothing)
       → P c (refused m a) []
   -- the network that it names refuses it
   pub declines : (c : Call) (id : Id) (sight : Sight) (i : ℕ) (a : Answer) → addressOf (answerNumber a) c ≡ to id sight → Found m id i
-      → isTaken (partOf (networkAt m i) (stateAt m i) sight .reply) ≡ false → Refusal c a → P c (refused m a) []
+      → Declines (partOf (networkAt m i) (stateAt m i) sight) a → CanRefuse c a → P c (refused m a) []
   -- the network that it names takes it
   pub takes : (c : Call) (id : Id) (sight : Sight) (i : ℕ) → addressOf 0 c ≡ to id sight → Found m id i
       → isTaken (partOf (networkAt m i) (stateAt m i) sight .reply) ≡ true
@@ -126,10 +138,10 @@ module _ (m : Manager) (P : Call → Outcome → List Record → Type 0) (by : B
   -- its refusals: 01, the one for an unknown id, and those of the network
   record Refusals (c : Call) (id : Id) (sight : Sight) : Type 0 where
     names : (number : ℕ) → addressOf number c ≡ to id sight
-    unready : Refusal c Answer.NotReady
-    nobody : Refusal c (unknown id)
+    unready : CanRefuse c Answer.NotReady
+    nobody : CanRefuse c (unknown id)
     declined : (i : ℕ) → isTaken (partOf (networkAt m i) (stateAt m i) sight .reply) ≡ false
-        → Refusal c (answerOf (partOf (networkAt m i) (stateAt m i) sight .reply))
+        → CanRefuse c (answerOf (partOf (networkAt m i) (stateAt m i) sight .reply))
     fits : (i : ℕ) → 3 * length (recordsOf (networkAt m i) (stateAt m i) sight) ≤ roomOf c
 
   at-slot : (c : Call) (id : Id) (sight : Sight) → Refusals c id sight → (i : ℕ) → Found m id i
@@ -139,7 +151,8 @@ module _ (m : Manager) (P : Call → Outcome → List Record → Type 0) (by : B
       split (λ (o : Outcome). P c o (recordsOf (networkAt m i) (stateAt m i) sight)) (isTaken (partOf (networkAt m i) (stateAt m i) sight .reply))
       (λ e. by .takes c id sight i (r .names 0) f e (r .fits i))
       (λ e. subst (P c (refused m (answerOf (partOf (networkAt m i) (stateAt m i) sight .reply))))
-      (sym (refused-stays (networkAt m i) (stateAt m i) sight e .1)) (by .declines c id sight i _ (r .names _) f e (r .declined i e)))
+      (sym (refused-stays (networkAt m i) (stateAt m i) sight e .1)) (by .declines c id sight i _ (r .names _) f
+      (record { refused = e; answer = refl }) (r .declined i e)))
 
   by-named : (c : Call) (id : Id) (sight : Sight) → Refusals c id sight → P c (named m id sight) (slotRecords m (slotOf m id) sight)
   unfolding named
@@ -159,7 +172,7 @@ module _ (m : Manager) (P : Call → Outcome → List Record → Type 0) (by : B
 
   -- ---- a call that is lent a buffer for records
   by-gate : (c : Call) (room needs : ℕ) (o : Outcome) (rs : List Record) →
-      Refusal c Answer.NotReady → Refusal c Answer.TooShort → (ltb room needs ≡ true → (n : Network) → seenAs n (addressOf 0x20 c) ≡ nothing) →
+      CanRefuse c Answer.NotReady → CanRefuse c Answer.TooShort → (ltb room needs ≡ true → (n : Network) → seenAs n (addressOf 0x20 c) ≡ nothing) →
       (m .stage ≡ Stage.Started → ltb room needs ≡ false → P c o rs) → P c (byGate m (gateOf m room needs) o) (gateRecords (gateOf m room needs) rs)
   unfolding gateOf
   by-gate c room needs o rs unready short unseen p = at-stage (m .stage) refl
@@ -211,12 +224,21 @@ module _ (m : Manager) (P : Call → Outcome → List Record → Type 0) (by : B
   by-start Stage.Started e = by .refuses start Answer.Running (record { refused = refl; among = refl }) (λ s i h. refl)
 
   -- ---- the replies of a network
+  -- 21, for what is out of range
+  abbrev outside : Answer
+  outside = Answer.Network Refusal.OutOfRange
+
+  -- 22, for what the step does not take
+  abbrev untaken : Answer
+  untaken = Answer.Network Refusal.NotTaken
+
   abbrev Declined : Call → Part → Type 0
-  Declined c part = isTaken (part .reply) ≡ false → Refusal c (answerOf (part .reply))
+  Declined c part = isTaken (part .reply) ≡ false → CanRefuse c (answerOf (part .reply))
 
   request-declined : (handle mode i : ℕ) → Declined (request handle mode) (partOf (networkAt m i) (stateAt m i) (aRequest mode))
   unfolding partOf any
   request-declined handle mode i = by-request (stateAt m i) (Declined (request handle mode)) mode (λ _ _ _ e. absurd (true≢false e))
+      (λ _. record { refused = refl; among = refl }) (λ _. record { refused = refl; among = refl })
       (λ _. record { refused = refl; among = refl }) (λ _. record { refused = refl; among = refl })
 
   answer-declined : (c mode ok i : ℕ) → Declined (answer c mode ok) (partOf (networkAt m i) (stateAt m i) (anAnswer c mode ok))
@@ -225,12 +247,12 @@ module _ (m : Manager) (P : Call → Outcome → List Record → Type 0) (by : B
       by-answer (stateAt m i) (Declined (answer c mode ok)) (networkAt m i) c mode ok (λ _ _ e. absurd (true≢false e)) (λ _
       _. record { refused = refl; among = refl }) (λ _ _. record { refused = refl; among = refl }) (λ _ _. record { refused = refl; among = refl })
 
-  report-declined : (c : Call) (report : Report) → (outOfRange report ≡ true → Refusal c Answer.OutOfRange) → Refusal c Answer.NotTaken → (i : ℕ)
+  report-declined : (c : Call) (report : Report) → (outOfRange report ≡ true → CanRefuse c outside) → CanRefuse c untaken → (i : ℕ)
       → Declined c (partOf (networkAt m i) (stateAt m i) (aReport report))
   unfolding partOf reportPart
   report-declined c report out not i = by-report (stateAt m i) (Declined c) report _ (λ _ e. absurd (true≢false e)) (λ e _. out e) (λ _ _. not)
 
-  hit-declined : (c : Call) (s : State) → Refusal c Answer.NotTaken → (hit : Hit) → Declined c (hitPart s hit)
+  hit-declined : (c : Call) (s : State) → CanRefuse c untaken → (hit : Hit) → Declined c (hitPart s hit)
   unfolding hitPart
   hit-declined c s not Hit.Recover e = absurd (true≢false e)
   hit-declined c s not Hit.Restart e = absurd (true≢false e)
@@ -242,10 +264,10 @@ module _ (m : Manager) (P : Call → Outcome → List Record → Type 0) (by : B
     names : (number : ℕ) →
         addressOf number c ≡ cond (ltb room (troubleNeeds trouble) && eqb 0x20 number) toNobody (to id (sightOf trouble))
     lent : roomOf c ≡ room
-    unready : Refusal c Answer.NotReady
-    short : Refusal c Answer.TooShort
-    nobody : Refusal c (unknown id)
-    not : Refusal c Answer.NotTaken
+    unready : CanRefuse c Answer.NotReady
+    short : CanRefuse c Answer.TooShort
+    nobody : CanRefuse c (unknown id)
+    not : CanRefuse c untaken
 
   by-trouble : (c : Call) (room : ℕ) (id : Id) (trouble : Trouble) → Reports c room id trouble
       → P c (byGate m (gateOf m room (troubleNeeds trouble)) (named m id (sightOf trouble)))

@@ -14,18 +14,20 @@ use Rattle.network.specs.declared.Part.{Part}
 use Rattle.network.specs.Rules.{moveOf}
 use Rattle.network.specs.Moving.{tickState, tickRecords}
 use Rattle.network.specs.BusOff.{hitOf, stallOf, afterHit}
-use Rattle.network.specs.Parts.{Sight, aTick, aBusOff, aStall, anAnswer, aRequest, aReport, nothing, isTaken, hitReply, hitPart, partOf}
+use Rattle.network.specs.Replies.{replyNumber, isTaken}
+use Rattle.network.specs.Parts.{Sight, aTick, aBusOff, aStall, anAnswer, aRequest, aReport, nothing, hitReply, hitPart, partOf}
 use Rattle.network.specs.Parts.{recordsOf}
 use Rattle.network_theorems.proofs.Theorems.{tick-own}
-use Rattle.network_theorems.proofs.Parts.{refused-stays, part-own}
+use Rattle.network_theorems.proofs.Parts.{taken-number, refused-stays, part-own}
 use Rattle.slots.specs.declared.Stage.{Stage}
+use Rattle.slots.specs.declared.Answer.{Answer}
 use Rattle.slots.specs.declared.Slot.{Slot}
 use Rattle.slots.specs.declared.Manager.{Manager}
 use Rattle.slots.specs.declared.Outcome.{Outcome}
 use Rattle.slots.specs.Manager.{answerNumber, networksOf, blankState, networkAt, stateAt, allRecords}
 use Rattle.slots.specs.Calls.{Call, slotOf, allTicked, outcome, handedOut}
-use Rattle.calls.specs.Histories.{isAccepted, Address, addressOf, seenAs, entryOf}
-use Rattle.calls.proofs.ByCall.{slot-network, Found, by-slot, ByCall, by-call}
+use Rattle.calls.specs.Histories.{Address, addressOf, seenAs, entryOf}
+use Rattle.calls.proofs.ByCall.{slot-network, Found, by-slot, answer-number, Declines, ByCall, by-call}
 use Rattle.manager_theorems.specs.Careful.{Sound}
 use Rattle.manager_theorems.proofs.Sound.{slot-state, each-slot}
 use Rattle.network_demands.specs.Own.{hitAfter, played, handed, concerns, Fits}
@@ -98,19 +100,19 @@ module _
   abbrev s : State
   s = stateAt m i
 
-  -- what is seen, whether it was accepted, the network's record after it, and what was handed out to it
-  record Plays (sight : Sight) (accepted : Bool) (after : State) (rs : List Record) : Type 0 where
+  -- what is seen, the number of its answer, the network's record after it, and what was handed out to it
+  record Plays (sight : Sight) (number : ℕ) (after : State) (rs : List Record) : Type 0 where
     state : after ≡ partOf n s sight .state
-    answer : concerns sight ≡ true → accepted ≡ isTaken (partOf n s sight .reply)
+    answer : concerns sight ≡ true → number ≡ replyNumber (partOf n s sight .reply)
     records : keep (ownRecord n) rs ≡ recordsOf n s sight
 
   abbrev PlaysIn : Call → Outcome → List Record → Type 0
-  PlaysIn c o rs = Plays (seenAs n (addressOf (answerNumber (o .answer)) c)) (isAccepted (o .answer)) (stateAt (o .manager) i) rs
+  PlaysIn c o rs = Plays (seenAs n (addressOf (answerNumber (o .answer)) c)) (answerNumber (o .answer)) (stateAt (o .manager) i) rs
 
   -- it sees nothing, and nothing of its own is handed out
-  unseen : (accepted : Bool) (after : State) (rs : List Record) → after ≡ s → keep (ownRecord n) rs ≡ [] → Plays nothing accepted after rs
+  unseen : (number : ℕ) (after : State) (rs : List Record) → after ≡ s → keep (ownRecord n) rs ≡ [] → Plays nothing number after rs
   unfolding partOf recordsOf
-  unseen accepted after rs e f = record { state = e; answer = λ g. absurd (false≢true g); records = f }
+  unseen number after rs e f = record { state = e; answer = λ g. absurd (false≢true g); records = f }
 
   none-kept : keep (ownRecord n) [] ≡ []
   unfolding keep
@@ -137,33 +139,37 @@ module _
   own-slot id e = by-slot m id (λ slot. slot ≡ Slot.At i) (λ f. absurd (f started)) (λ f. absurd (true≢false (sym e ∙ f i h)))
       (λ j f. ap Slot.At (sym (same-slot id j f e)))
 
-  declined-plays : (id : Id) (sight : Sight) (j : ℕ) → Found m id j → isTaken (partOf (networkAt m j) (stateAt m j) sight .reply) ≡ false
-      → (own : Bool) → has id n ≡ own → Plays (cond own sight nothing) false s []
-  declined-plays id sight j f d true e =
-      let d′ : isTaken (partOf n s sight .reply) ≡ false =
-      subst (λ (k : ℕ). isTaken (partOf (networkAt m k) (stateAt m k) sight .reply) ≡ false) (sym (same-slot id j f e)) d in
-      let stays = refused-stays n s sight d′ in
-      record { state = sym (stays .0); answer = λ _. sym d′; records = none-kept ∙ sym (stays .1) }
-  declined-plays id sight j f d false e = unseen false s [] refl none-kept
+  declined-plays : (id : Id) (sight : Sight) (j : ℕ) (a : Answer) → Found m id j → Declines (partOf (networkAt m j) (stateAt m j) sight) a
+      → (own : Bool) → has id n ≡ own → Plays (cond own sight nothing) (answerNumber a) s []
+  declined-plays id sight j a f d true e =
+      let own : Declines (partOf n s sight) a =
+      subst (λ (k : ℕ). Declines (partOf (networkAt m k) (stateAt m k) sight) a) (sym (same-slot id j f e)) d in
+      let stays = refused-stays n s sight (own .refused) in
+      record {
+        state = sym (stays .0);
+        answer = λ _. ap answerNumber (own .answer) ∙ answer-number (partOf n s sight .reply);
+        records = none-kept ∙ sym (stays .1);
+      }
+  declined-plays id sight j a f d false e = unseen (answerNumber a) s [] refl none-kept
 
   -- the network's record after slot j took what it sees so
   abbrev stored : ℕ → Sight → State
   stored j sight = getD (set (m .states) j (partOf (networkAt m j) (stateAt m j) sight .state)) i blankState
 
   taken-plays : (id : Id) (sight : Sight) (j : ℕ) → Found m id j → isTaken (partOf (networkAt m j) (stateAt m j) sight .reply) ≡ true
-      → (own : Bool) → has id n ≡ own → Plays (cond own sight nothing) true (stored j sight) (recordsOf (networkAt m j) (stateAt m j) sight)
+      → (own : Bool) → has id n ≡ own → Plays (cond own sight nothing) 0 (stored j sight) (recordsOf (networkAt m j) (stateAt m j) sight)
   taken-plays id sight j f t true e =
       subst (λ (k : ℕ). isTaken (partOf (networkAt m k) (stateAt m k) sight .reply) ≡ true
-      → Plays sight true (stored k sight) (recordsOf (networkAt m k) (stateAt m k) sight))
+      → Plays sight 0 (stored k sight) (recordsOf (networkAt m k) (stateAt m k) sight))
       (same-slot id j f e)
       (λ t′. record {
         state = getD-set-same (m .states) i (partOf n s sight .state) blankState (slot-state m (sound .networks) (sound .states) i h);
-        answer = λ _. sym t′;
+        answer = λ _. sym (taken-number (partOf n s sight .reply) t′);
         records = keep-all (ownRecord n) (recordsOf n s sight) (part-own n s sight);
       }) t
   taken-plays id sight j f t false e =
       let apart = other-slot id j f e in
-      unseen true _ _ (getD-set-other (m .states) j i _ blankState apart) (keep-none (ownRecord n) (ownRecord (networkAt m j))
+      unseen 0 _ _ (getD-set-other (m .states) j i _ blankState apart) (keep-none (ownRecord n) (ownRecord (networkAt m j))
       (foreign j (f .used) apart) (recordsOf (networkAt m j) (stateAt m j) sight) (part-own (networkAt m j) (stateAt m j) sight))
 
   own-ticks : keep (ownRecord n) (allRecords (networksOf m) (m .states)) ≡ tickRecords n s
@@ -177,22 +183,21 @@ module _
   unfolding allTicked partOf recordsOf
   call-plays = by-call m PlaysIn (record {
     refuses = λ c a r f.
-        subst (λ (sight : Sight). Plays sight (isAccepted a) s []) (sym (f started i h)) (unseen (isAccepted a) s [] refl none-kept);
+        subst (λ (sight : Sight). Plays sight (answerNumber a) s []) (sym (f started i h)) (unseen (answerNumber a) s [] refl none-kept);
     declines = λ c id sight j a e f d r.
-        subst (λ (b : Bool). Plays (seenAs n (addressOf (answerNumber a) c)) b s []) (sym (r .refused))
-        (subst (λ (x : Address). Plays (seenAs n x) false s []) (sym e) (declined-plays id sight j f d (has id n) refl));
+        subst (λ (x : Address). Plays (seenAs n x) (answerNumber a) s []) (sym e) (declined-plays id sight j a f d (has id n) refl);
     takes = λ c id sight j e f t k.
-        subst (λ (x : Address). Plays (seenAs n x) true (stored j sight) (recordsOf (networkAt m j) (stateAt m j) sight))
+        subst (λ (x : Address). Plays (seenAs n x) 0 (stored j sight) (recordsOf (networkAt m j) (stateAt m j) sight))
         (sym e) (taken-plays id sight j f t (has id n) refl);
     ticks = λ room g k. record {
       state = each-slot m tickState (sound .networks) (sound .states) i h;
       answer = λ _. refl;
       records = own-ticks;
     };
-    polls = λ handle j f. unseen true s [] refl none-kept;
+    polls = λ handle j f. unseen 0 s [] refl none-kept;
     reads = λ bytes f e. absurd (f started);
     misreads = λ bytes fault f. absurd (f started);
-    writes = λ room f. unseen true s [] refl none-kept;
+    writes = λ room f. unseen 0 s [] refl none-kept;
     starts = λ e. absurd (let z : _≡_ {A = ℕ} 0 1 = cc in omega arith);
   })
 
@@ -203,6 +208,6 @@ module _
       let p = call-plays c in
       let sight = viewOf n (entryOf m c) .sight in
       let same = played-is n s sight in (
-        record { accepted = λ f. p .answer f ∙ rw same refl; records = p .records ∙ handed-is n s sight },
+        record { number = λ f. p .answer f ∙ rw same refl; records = p .records ∙ handed-is n s sight },
         p .state ∙ rw same refl,
       )

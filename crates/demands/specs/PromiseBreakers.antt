@@ -14,18 +14,19 @@ use Rattle.settings.specs.declared.Transceiver.{Transceiver}
 use Rattle.settings.specs.declared.Network.{Network}
 use Rattle.network.specs.declared.Report.{Report}
 use Rattle.network.specs.declared.State.{State}
-use Rattle.network.specs.Parts.{Sight, aTick, aBusOff, aStall, anAnswer, aRequest, aReport, isTaken}
+use Rattle.network.specs.Replies.{replyNumber}
+use Rattle.network.specs.Parts.{Sight, aTick, aBusOff, aStall, anAnswer, aRequest, aReport}
 use Rattle.calls.specs.Computed.{computedOutcome}
 use Rattle.network_demands.specs.Words.{Seen, OwnHistory, calledUp, awaited, afterStall}
 use Rattle.network_demands.specs.Own.{played, handed, stateOf, Ran}
 use Rattle.network_demands.specs.Promises.{saidOk, BusOffs, Stalls, Answers, Requests, Ticks}
-use Rattle.demands.specs.WrongBoxes.{networkWith, network, taken, refused, ticks, computedWords}
+use Rattle.demands.specs.WrongBoxes.{networkWith, network, taken, refusedWith, refused, ticks, computedWords}
 
 -- ---- the product's part
 
 -- what the product makes of a call that is seen so
 abbrev rightly : Network → State → Sight → Seen
-rightly n s sight = record { sight = sight; accepted = isTaken (played n s sight .reply); records = handed n s sight }
+rightly n s sight = record { sight = sight; number = replyNumber (played n s sight .reply); records = handed n s sight }
 
 -- its history, by what is seen
 unfoldable pub lives : Network → List Sight → OwnHistory
@@ -36,7 +37,7 @@ lives n (sight ∷ earlier) = rightly n (stateOf n (lives n earlier)) sight ∷ 
 pub lives-ran : (n : Network) (l : List Sight) → Ran n (lives n l)
 unfolding Ran lives
 lives-ran n [] = tt
-lives-ran n (sight ∷ earlier) = (record { accepted = λ c. refl; records = refl }, lives-ran n earlier)
+lives-ran n (sight ∷ earlier) = (record { number = λ c. refl; records = refl }, lives-ran n earlier)
 
 -- with all open that it takes to compute one, and what the promises say of it
 unfoldable computedLife : Network → List Sight → OwnHistory
@@ -226,6 +227,50 @@ module _ where
   pub silent-refused-resetting : Requests network (refused (aRequest 1)) (lives network resetting) → ⊥
   unfolding computedLife
   silent-refused-resetting q = false≢true (q .accepted 1 refl)
+
+  -- `asleep`: silent is refused with 08 while the network comes up, as older boxes did
+  pub silent-coming-up-with-08 : Requests network (refusedWith 0x08 (aRequest 1)) (lives network starting) → ⊥
+  unfolding computedLife
+  silent-coming-up-with-08 q = true≢false (q .asleep 1 refl)
+
+  -- `asleep`: and while it goes down
+  pub silent-going-down-with-08 : Requests network (refusedWith 0x08 (aRequest 1)) (lives network falling) → ⊥
+  unfolding computedLife
+  silent-going-down-with-08 q = true≢false (q .asleep 1 refl)
+
+  -- `asleep`: a network at rest is said to come up as soon as full is wanted, before any tick
+  pub silent-wanted-full-with-24 : Requests network (refusedWith 0x24 (aRequest 1)) (lives network (aRequest 2 ∷ rest)) → ⊥
+  unfolding computedLife
+  silent-wanted-full-with-24 q = false≢true (q .asleep 1 refl)
+
+  -- `coming-up`: 24 and 25 are swapped
+  pub silent-coming-up-with-25 : Requests network (refusedWith 0x25 (aRequest 1)) (lives network starting) → ⊥
+  unfolding computedLife
+  silent-coming-up-with-25 q = false≢true (q .coming-up 1 refl)
+
+  pub silent-going-down-with-24 : Requests network (refusedWith 0x24 (aRequest 1)) (lives network falling) → ⊥
+  unfolding computedLife
+  silent-going-down-with-24 q = true≢false (q .coming-up 1 refl)
+
+  -- `going-down`: from the start on a network goes down, and is not asleep before it came to rest
+  pub silent-after-the-start-with-08 : Requests network (refusedWith 0x08 (aRequest 1)) (lives network []) → ⊥
+  unfolding computedLife
+  silent-after-the-start-with-08 q = false≢true (q .going-down 1 refl)
+
+  -- `going-down`: silent is refused with 25 where the network is silent already
+  pub silent-in-silent-with-25 : Requests network (refusedWith 0x25 (aRequest 1)) (lives network (aTick ∷ aRequest 1 ∷ full)) → ⊥
+  unfolding computedLife
+  silent-in-silent-with-25 q = true≢false (q .going-down 1 refl)
+
+  -- `asleep`: full is refused with 08 at rest
+  pub full-refused-with-08 : Requests network (refusedWith 0x08 (aRequest 2)) (lives network rest) → ⊥
+  unfolding computedLife
+  full-refused-with-08 q = true≢false (q .asleep 2 refl)
+
+  -- `out-of-range`: a mode of 3 is refused as silent is
+  pub mode-above-2-with-08 : Requests network (refusedWith 0x08 (aRequest 3)) (lives network rest) → ⊥
+  unfolding computedLife
+  mode-above-2-with-08 q = false≢true (q .out-of-range 3 refl)
 
 -- ---- ticks
 module _ where

@@ -1,7 +1,6 @@
--- A history as one network sees it: of each entry what the call is to the network, whether it was accepted, and the records that name its own ids.
+-- A history as one network sees it: of each entry what the call is to the network, the number of its answer, and the records that name its own ids.
 use mathlib.Core.List.{List, [], _∷_, map}
 use mathlib.Core.Bool.{Bool, cond}
-use lib.Dec.{eqb}
 use Rattle.settings.specs.declared.Network.{Network}
 use Rattle.handing.specs.Handing.{ownRecord}
 use Rattle.calls.specs.Histories.{Entry, History, addressOf, seenAs}
@@ -17,7 +16,7 @@ abbrev pub viewOf : Network → Entry → Seen
 viewOf n e =
     record {
       sight = seenAs n (addressOf (e .number) (e .call));
-      accepted = eqb 0 (e .number);
+      number = e .number;
       records = keep (ownRecord n) (e .records);
     }
 

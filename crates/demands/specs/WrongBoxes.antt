@@ -43,11 +43,15 @@ network = networkWith 1 (3 ∷ 0 ∷ 0 ∷ 0 ∷ []) Transceiver.Absent false
 
 -- a call that was accepted, with the records that the box handed out on it
 abbrev pub taken : Sight → List Record → Seen
-taken sight records = record { sight = sight; accepted = true; records = records }
+taken sight records = record { sight = sight; number = 0; records = records }
 
--- a call that was refused
+-- a call that was refused with a number
+abbrev pub refusedWith : ℕ → Sight → Seen
+refusedWith number sight = record { sight = sight; number = number; records = [] }
+
+-- one that was refused with 22
 abbrev pub refused : Sight → Seen
-refused sight = record { sight = sight; accepted = false; records = [] }
+refused sight = refusedWith 0x22 sight
 
 -- a tick
 abbrev pub ticks : List Record → Seen

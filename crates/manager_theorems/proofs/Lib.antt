@@ -1,3 +1,4 @@
 pub mod Careful
 pub mod Sound
 pub mod Counts
+pub mod Requests

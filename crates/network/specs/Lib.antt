@@ -1,4 +1,5 @@
 pub mod State
+pub mod Replies
 pub mod Rules
 pub mod Moving
 pub mod Answers

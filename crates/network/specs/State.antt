@@ -1,14 +1,11 @@
 -- The record of a network: at the start, and after a request. A record has one form: in a step that asks nothing, asked is no and nothing is kept as
--- answered; unused slots are pending. The rules N3, N7, N8, N14, N15 and R14 of docs/RULES.md.
+-- answered; unused slots are pending. The rules N3, N7, N8 and N14 of docs/RULES.md.
 use mathlib.Core.List.{List}
-use mathlib.Core.Bool.{Bool, true, false}
+use mathlib.Core.Bool.{false}
 use lib.ListN.{take, replicate}
 use Rattle.records.specs.declared.Mode.{Mode}
 use Rattle.settings.specs.declared.Network.{Network}
 use Rattle.settings.specs.Settings.{mostControllers}
-use Rattle.steps.specs.declared.Step.{Step}
-use Rattle.steps.specs.Steps.{isUp}
-use Rattle.steps.specs.Decision.{byMode}
 use Rattle.steps.specs.After.{firstDown}
 use Rattle.network.specs.declared.LastAnswer.{LastAnswer}
 use Rattle.network.specs.declared.Heard.{Heard}
@@ -35,7 +32,3 @@ started n =
 unfoldable pub wants : State → Mode → State
 wants s mode =
     record { step = s .step; wanted = mode; told = s .told; count = s .count; asked = s .asked; answers = s .answers; reported = s .reported }
-
--- N15, R14: silent may be asked for in an up step alone, no and full in every step, also during a recovery
-abbrev pub mayWant : Step → Mode → Bool
-mayWant step mode = byMode mode true (isUp step) true

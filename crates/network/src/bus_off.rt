@@ -1,7 +1,7 @@
 // A bus-off of one of the network's controllers, and a stall of its sending.
 use crate::Hit;
 use crate::Part;
-use crate::Reply;
+use crate::Refusal;
 use crate::State;
 use crate::Struck;
 use crate::Trouble;
@@ -95,7 +95,7 @@ fn hit_part(state: State, hit: Hit) -> Part
         )),
         Hit::Restart => Part::take(anew(state, step, told, state.count)),
         Hit::Reset => Part::take(anew(state, Step::ResetStopped, Mode::Silent, state.count)),
-        Hit::NotTaken => Part::decline(state, Reply::NotTaken),
+        Hit::NotTaken => Part::decline(state, Refusal::NotTaken),
     }
 }
 

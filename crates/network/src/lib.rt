@@ -4,7 +4,8 @@ mod bus_off;
 mod parts;
 
 ghost use mathlib.Core.Path.{_≡_};
-ghost use Rattle.network.specs.State.{blankAnswers, started, wants, mayWant};
+ghost use Rattle.network.specs.State.{blankAnswers, started, wants};
+ghost use Rattle.network.specs.Replies.{refusalNumber};
 ghost use Rattle.network.specs.Parts.{taken, declined};
 pub use bus_off::strike;
 pub use parts::answer_part;
@@ -66,15 +67,22 @@ pub enum Hit {
     NotTaken,
 }
 
+// Why a network refuses a call that names it, by its rule and its number.
+pub enum Refusal {
+    // R13: 21, a mode above 2 or an ok value above 1.
+    OutOfRange,
+    // R14, R22, R23: 08, 24, 25, silent asked for where the network is off, comes up, goes down.
+    Asleep,
+    ComingUp,
+    GoingDown,
+    // R15: 22, an answer, a report, a bus-off or a stall that the step does not take.
+    NotTaken,
+}
+
 // What a network replies to a call that names it.
 pub enum Reply {
     Taken,
-    // R13: 21, for a mode above 2 or an ok value above 1.
-    OutOfRange,
-    // R14: 08, for silent asked for where the network is not up.
-    NotUp,
-    // R15: 22, for an answer, a report, a bus-off or a stall that the step does not take.
-    NotTaken,
+    Refused(Refusal),
 }
 
 // What a network makes of such a call: its reply, and its record after the call.
@@ -109,10 +117,28 @@ impl Part {
     }
 
     // R2: refused, the record stays as it was.
-    pub fn decline(state: State, reply: Reply) -> Part
-        ensures { λ r. ⌜ r ≡ declined state reply ⌝ }
+    pub fn decline(state: State, refusal: Refusal) -> Part
+        ensures { λ r. ⌜ r ≡ declined state refusal ⌝ }
     {
-        Part { reply, state }
+        Part {
+            reply: Reply::Refused(refusal),
+            state,
+        }
+    }
+}
+
+impl Refusal {
+    // R13 to R15, R22, R23, K6: the number of this refusal.
+    pub fn number(self) -> u8
+        ensures { λ r. ⌜ r ≡ refusalNumber self ⌝ }
+    {
+        match self {
+            Refusal::OutOfRange => 0x21,
+            Refusal::Asleep => 0x08,
+            Refusal::ComingUp => 0x24,
+            Refusal::GoingDown => 0x25,
+            Refusal::NotTaken => 0x22,
+        }
     }
 }
 
@@ -144,18 +170,6 @@ impl State {
             asked: false,
             answers,
             reported: false,
-        }
-    }
-
-    // N15, R14: silent may be asked for in an up step only.
-    pub fn may_want(self, mode: Mode) -> bool
-        ensures { λ r. ⌜ r ≡ mayWant (self .step) mode ⌝ }
-    {
-        let step = self.step;
-        match mode {
-            Mode::No => true,
-            Mode::Silent => step.is_up(),
-            Mode::Full => true,
         }
     }
 

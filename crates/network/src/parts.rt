@@ -1,6 +1,7 @@
 // What a network makes of a call that names it.
 use crate::LastAnswer;
 use crate::Part;
+use crate::Refusal;
 use crate::Reply;
 use crate::Report;
 use crate::State;
@@ -12,18 +13,48 @@ use records::Mode;
 use records::NamedMode;
 use records::TransceiverMode;
 use settings::Network;
+use steps::Phase;
+use steps::Step;
 ghost use mathlib.Core.Path.{_≡_};
+ghost use Rattle.network.specs.Replies.{silentReply, requestReply};
 ghost use Rattle.network.specs.Parts.{wantedPart, requestPart, outOfRange, takenPart, reportPart, answerPart};
 
-// N14, R14: the mode is stored where it may be asked for.
+// N15, R14, R22, R23: silent is taken while the network is up; else the refusal says where it is instead.
+fn silent_reply(phase: Phase) -> Reply
+    ensures { λ r. ⌜ r ≡ silentReply phase ⌝ }
+{
+    match phase {
+        Phase::Off => Reply::Refused(Refusal::Asleep),
+        Phase::Rising => Reply::Refused(Refusal::ComingUp),
+        Phase::Checking => Reply::Taken,
+        Phase::Full => Reply::Taken,
+        Phase::Recovering => Reply::Taken,
+        Phase::Silent => Reply::Taken,
+        Phase::Falling => Reply::Refused(Refusal::GoingDown),
+        Phase::Resetting => Reply::Taken,
+    }
+}
+
+// N15: no and full may be asked for in every step.
+fn request_reply(step: Step, mode: Mode) -> Reply
+    ensures { λ r. ⌜ r ≡ requestReply step mode ⌝ }
+{
+    match mode {
+        Mode::No => Reply::Taken,
+        Mode::Silent => silent_reply(step.phase()),
+        Mode::Full => Reply::Taken,
+    }
+}
+
+// N14: the mode is stored where it may be asked for.
 fn want_mode(state: State, mode: Mode) -> Part
     ensures { λ r. ⌜ r ≡ wantedPart state mode ⌝ }
 {
-    if state.may_want(mode) {
-        let next = state.want(mode);
-        return Part::take(next);
+    let step = state.step;
+    match request_reply(step, mode) {
+        Reply::Taken => Part::take(state.want(mode)),
+        Reply::Refused(refusal) => Part::decline(state, refusal),
     }
-    Part::decline(state, Reply::NotUp)
 }
 
 // R13: a communication mode is wanted, by its number.
@@ -32,7 +63,7 @@ pub fn request_part(state: State, mode: u8) -> Part
 {
     match Mode::from_number(mode) {
         NamedMode::Known(wanted) => want_mode(state, wanted),
-        NamedMode::Unknown => Part::decline(state, Reply::OutOfRange),
+        NamedMode::Unknown => Part::decline(state, Refusal::OutOfRange),
     }
 }
 
@@ -53,12 +84,12 @@ fn take_report(state: State, report: Report, after: State) -> Part
     ensures { λ r. ⌜ r ≡ takenPart state report after ⌝ }
 {
     if is_out_of_range(report) {
-        return Part::decline(state, Reply::OutOfRange);
+        return Part::decline(state, Refusal::OutOfRange);
     }
     if takes(state, report) {
         return Part::take(after);
     }
-    Part::decline(state, Reply::NotTaken)
+    Part::decline(state, Refusal::NotTaken)
 }
 
 // A report of the transceiver.
@@ -73,7 +104,7 @@ pub fn answer_part(network: Network, state: State, id: u8, mode: u8, ok: u8) -> 
     ensures { λ r. ⌜ r ≡ answerPart network state id mode ok ⌝ }
 {
     if LastAnswer::OKAY < ok {
-        return Part::decline(state, Reply::OutOfRange);
+        return Part::decline(state, Refusal::OutOfRange);
     }
     let after = with_answer(network, state, id, ok == LastAnswer::OKAY);
     take_report(state, Report::Controller(mode), after)

@@ -147,13 +147,13 @@ module _ (n : Network) where
       → (e : Seen) → Fits n s e → Checked (n .ensure) (played n s (e .sight) .state .step) (sinceFull (e ∷ h))
   unfolding since tally any recovery reset afterMove afterHit madeAnew
   checked-call g h s kept u i = by-part n s (λ e t. Checked (n .ensure) (t .step) (sinceFull (e ∷ h))) (record {
-    plain = λ sight accepted mode reported p. rw (p .tick) i;
+    plain = λ sight number mode reported p. rw (p .tick) i;
     hears = λ c mode ok m l e. i;
     recovers = λ u. tt;
     restarts = λ u a. i;
     not-taken = λ u a. i;
     resets = λ f. tt;
-    ticks = rw (since-full-tick h (seen aTick true (tickHands n s)) refl, move-says-full n (s .step) (s .told) (decides n s))
+    ticks = rw (since-full-tick h (seen aTick 0 (tickHands n s)) refl, move-says-full n (s .step) (s .told) (decides n s))
         (checked-tick s (sinceFull h) g kept u i .0);
   })
 

@@ -1,6 +1,6 @@
 -- What a network's record keeps of a history: the number of bus-offs while up, the mode last wanted and the mode last told.
 use Rattle.lists.proofs.Basics.{ℕ, suc, _≤_, min, arith, ltb-true, ltb-false, lt-ltb, le-ltb, _≡_, refl, sym, ap, _∙_, [], _∷_, Bool, true, false}
-use Rattle.lists.proofs.Basics.{cond, ltb}
+use Rattle.lists.proofs.Basics.{cond, eqb, ltb}
 use Rattle.lists.specs.Lists.{any}
 use Rattle.records.specs.declared.Mode.{Mode}
 use Rattle.records.specs.Records.{modeNumber}
@@ -88,49 +88,49 @@ module _ (n : Network) (h : OwnHistory) (s : State) (u : up n h ≡ isUp (s .ste
   count-on e true p q = ap (λ (x : ℕ). min x 255) (sym (falls-by n e h true false p q))
   count-on e false p q = k .count ∙ ap (λ (x : ℕ). min x 255) (sym (falls-by n e h false false p q))
 
-  follows-plain : (sight : Sight) (accepted : Bool) (mode : Mode) (reported : Bool) → Plain n s sight accepted mode reported
-      → StillFollows (seen sight accepted []) (plainState s mode reported)
+  follows-plain : (sight : Sight) (number : ℕ) (mode : Mode) (reported : Bool) → Plain n s sight (eqb 0 number) mode reported
+      → StillFollows (seen sight number []) (plainState s mode reported)
   unfolding any told toldBy wanted
-  follows-plain sight accepted mode reported p = record {
-    count = count-on (seen sight accepted []) false refl (rw (p .bus-off) refl);
-    wanted = p .wanted ∙ ap (λ (before : ℕ). cond accepted (wantedBy sight before) before) (k .wanted);
+  follows-plain sight number mode reported p = record {
+    count = count-on (seen sight number []) false refl (rw (p .bus-off) refl);
+    wanted = p .wanted ∙ ap (λ (before : ℕ). cond (eqb 0 number) (wantedBy sight before) before) (k .wanted);
     told = k .told;
   }
 
-  pub follows-fall : isUp (s .step) ≡ true → StillFollows (seen aBusOff true (recovery (n .handle))) (recovered s)
+  pub follows-fall : isUp (s .step) ≡ true → StillFollows (seen aBusOff 0 (recovery (n .handle))) (recovered s)
   unfolding told wanted afterHit madeAnew
   follows-fall f = record {
     count = raised-min (s .count) (falls n h) (k .count) ∙ ap (λ (x : ℕ). min x 255)
-        (sym (falls-by n (seen aBusOff true (recovery (n .handle))) h false true (recovery-clears-not n) (u ∙ f)));
+        (sym (falls-by n (seen aBusOff 0 (recovery (n .handle))) h false true (recovery-clears-not n) (u ∙ f)));
     wanted = k .wanted;
     told = sym (recovery-tells n (told n h));
   }
 
   -- a bus-off that finds the network down changes nothing that is followed
-  follows-down : isUp (s .step) ≡ false → (accepted : Bool) (t : State) → t .count ≡ s .count → t .wanted ≡ s .wanted → t .told ≡ s .told
-      → StillFollows (seen aBusOff accepted []) t
+  follows-down : isUp (s .step) ≡ false → (number : ℕ) (t : State) → t .count ≡ s .count → t .wanted ≡ s .wanted → t .told ≡ s .told
+      → StillFollows (seen aBusOff number []) t
   unfolding any told toldBy wanted
-  follows-down f accepted t same-count same-wanted same-told = record {
-    count = same-count ∙ count-on (seen aBusOff accepted []) false refl (u ∙ f);
-    wanted = ap modeNumber same-wanted ∙ k .wanted ∙ either-way accepted (wanted h);
+  follows-down f number t same-count same-wanted same-told = record {
+    count = same-count ∙ count-on (seen aBusOff number []) false refl (u ∙ f);
+    wanted = ap modeNumber same-wanted ∙ k .wanted ∙ either-way (eqb 0 number) (wanted h);
     told = ap modeNumber same-told ∙ k .told;
   }
 
   -- a stall tells silent, and touches neither the count nor the wanted mode
-  follows-reset : StillFollows (seen aStall true (reset (n .handle))) (resetAfter s)
+  follows-reset : StillFollows (seen aStall 0 (reset (n .handle))) (resetAfter s)
   unfolding any told toldBy wanted reset afterHit madeAnew
   follows-reset = record {
-    count = count-on (seen aStall true (reset (n .handle))) false refl refl;
+    count = count-on (seen aStall 0 (reset (n .handle))) false refl refl;
     wanted = k .wanted;
     told = rw (eqb-same (n .handle)) refl;
   }
 
-  follows-tick : StillFollows (seen aTick true (tickHands n s)) (tickAfter n s)
+  follows-tick : StillFollows (seen aTick 0 (tickHands n s)) (tickAfter n s)
   unfolding told wanted afterMove
   follows-tick =
       let m : Move = decides n s in
       record {
-        count = count-by m (s .count) ∙ count-on (seen aTick true (tickHands n s)) (isPass m) (move-clears n (s .step) _ m) refl;
+        count = count-by m (s .count) ∙ count-on (seen aTick 0 (tickHands n s)) (isPass m) (move-clears n (s .step) _ m) refl;
         wanted = k .wanted;
         told = sym (move-tells n (s .step) (s .told) m) ∙ ap (toldBy n (tickHands n s)) (k .told);
       }
@@ -141,8 +141,8 @@ module _ (n : Network) (h : OwnHistory) (s : State) (u : up n h ≡ isUp (s .ste
     plain = follows-plain;
     hears = λ c mode ok m l e. record { count = count-on _ false refl refl; wanted = k .wanted; told = k .told };
     recovers = follows-fall;
-    restarts = λ f a. follows-down f true _ refl refl refl;
-    not-taken = λ f a. follows-down f false _ refl refl refl;
+    restarts = λ f a. follows-down f 0 _ refl refl refl;
+    not-taken = λ f a. follows-down f 0x22 _ refl refl refl;
     resets = λ f. follows-reset;
     ticks = follows-tick;
   })

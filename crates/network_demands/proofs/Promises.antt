@@ -1,28 +1,29 @@
 -- The promises on bus-offs, stalls, answers and requests, for one network: what is taken and what is handed out on it.
-use Rattle.lists.proofs.Basics.{ℕ, zero, suc, arith, le-leb, lt-leb, ltb-true, ltb-false, ne-eqb, _≡_, refl, sym, ap, _∙_, List, [], _∷_, Bool, true}
-use Rattle.lists.proofs.Basics.{false}
-use Rattle.lists.proofs.Basics.{cond, _&&_, _||_, and-false, not, false≢true, eqb, leb, ltb}
+use Rattle.lists.proofs.Basics.{ℕ, arith, le-leb, lt-leb, le-ltb, ltb-true, ltb-false, eqb-true, _≡_, refl, sym, ap, _∙_, List, [], _∷_, Bool}
+use Rattle.lists.proofs.Basics.{true, false, cond, _&&_, _||_, and-false, not, true≢false, false≢true, eqb, leb, ltb}
 use Rattle.lists.proofs.Tests.{split}
-use Rattle.records.specs.declared.Mode.{Mode}
 use Rattle.records.specs.declared.Record.{Record}
 use Rattle.records.specs.Records as records
 use Rattle.settings.specs.declared.Network.{Network}
 use Rattle.settings.specs.Good.{InRange}
-use Rattle.steps.specs.Steps.{isUp}
+use Rattle.steps.specs.declared.Phase.{Phase}
+use Rattle.steps.specs.Steps.{phaseOf, onPhase, upPhase}
 use Rattle.handing.specs.Handing.{recovery, reset}
 use Rattle.network.specs.declared.Part.{Part}
 use Rattle.network.specs.declared.Report.{Report}
 use Rattle.network.specs.declared.State.{State}
 use Rattle.network.specs.Answers.{takesReport}
 use Rattle.network.specs.BusOff.{hitRecords}
-use Rattle.network.specs.Parts.{Sight, aStall, anAnswer, aRequest, aReport, isTaken, outOfRange, hitReply, wantedPart, requestPart, takenPart}
+use Rattle.network.specs.Replies.{replyNumber, isTaken, silentReply}
+use Rattle.network.specs.Parts.{Sight, aStall, anAnswer, aRequest, aReport, outOfRange, hitReply, takenPart}
 use Rattle.network.specs.Parts.{reportPart, answerPart}
-use Rattle.network_theorems.proofs.Parts.{by-stall}
-use Rattle.network_demands.specs.Words.{Seen, OwnHistory, told}
+use Rattle.network_theorems.proofs.Parts.{reply-accepted, by-stall, request-number}
+use Rattle.network_demands.specs.Words.{Seen, OwnHistory, accepted, rested, on, up, told}
 use Rattle.network_demands.specs.Own.{played, handed, stateOf, concerns, Fits, Ran}
 use Rattle.network_demands.specs.Promises.{BusOffs, Stalls, Answers, Requests}
 use Rattle.network_demands.proofs.Views.{by-part}
 use Rattle.network_demands.proofs.Up.{up-means}
+use Rattle.network_demands.proofs.Arrows.{restedPhase}
 use Rattle.network_demands.proofs.Told.{told-in-full}
 use Rattle.network_demands.proofs.Given.{controller-requested, transceiver-requested, clear-requested, check-requested}
 use Rattle.network_demands.proofs.Standing.{stands, awaited-takes}
@@ -36,22 +37,59 @@ within a limit = by-test (ltb limit a) refl
     by-test true e = lt-leb a limit (ltb-true limit a e)
     by-test false e = le-leb a limit (ltb-false limit a e)
 
--- a request
-silent-taken : (s : State) → isTaken (wantedPart s Mode.Silent .reply) ≡ isUp (s .step)
-unfolding wantedPart
-silent-taken s = split (λ (part : Part). isTaken (part .reply) ≡ isUp (s .step)) (isUp (s .step)) sym sym
+-- a request: which of its five answers a number is
+record Which : Type 0 where
+  accepted : Bool
+  out-of-range : Bool
+  asleep : Bool
+  coming-up : Bool
+  going-down : Bool
 
-request-taken : (s : State) (mode : ℕ) → isTaken (requestPart s mode .reply) ≡ leb mode 2 && (not (eqb 1 mode) || isUp (s .step))
-unfolding requestPart wantedPart
-request-taken s zero = refl
-request-taken s (suc zero) = silent-taken s
-request-taken s (suc (suc zero)) = refl
-request-taken s (suc (suc (suc mode))) =
-    let l = lt-leb (suc (suc (suc mode))) 2 (omega arith) in
-    let a = ne-eqb (suc (suc (suc mode))) 0 (λ e. omega arith) in
-    let b = ne-eqb (suc (suc (suc mode))) 1 (λ e. omega arith) in
-    let c = ne-eqb (suc (suc (suc mode))) 2 (λ e. omega arith) in
-    rw (l, a, b, c) refl
+abbrev whichIs : ℕ → Which
+whichIs number =
+    record {
+      accepted = eqb 0 number;
+      out-of-range = eqb 0x21 number;
+      asleep = eqb 0x08 number;
+      coming-up = eqb 0x24 number;
+      going-down = eqb 0x25 number;
+    }
+
+-- and which is due, by what the network is about, whether the mode is above 2, and whether it is silent
+abbrev due : Phase → Bool → Bool → Which
+due phase above silent =
+    record {
+      accepted = not above && (not silent || upPhase phase);
+      out-of-range = above;
+      asleep = silent && (restedPhase phase && not (onPhase phase));
+      coming-up = silent && (onPhase phase && not (upPhase phase));
+      going-down = silent && not (restedPhase phase);
+    }
+
+silent-due : (phase : Phase) → whichIs (replyNumber (silentReply phase)) ≡ due phase false true
+silent-due Phase.Off = refl
+silent-due Phase.Rising = refl
+silent-due Phase.Checking = refl
+silent-due Phase.Full = refl
+silent-due Phase.Recovering = refl
+silent-due Phase.Silent = refl
+silent-due Phase.Falling = refl
+silent-due Phase.Resetting = refl
+
+request-due : (phase : Phase) (above silent : Bool) → above && silent ≡ false
+    → whichIs (cond above 0x21 (cond silent (replyNumber (silentReply phase)) 0)) ≡ due phase above silent
+request-due phase true true e = absurd (true≢false e)
+request-due phase true false e = refl
+request-due phase false true e = silent-due phase
+request-due phase false false e = refl
+
+-- silent is not above 2
+silent-within : (mode : ℕ) → ltb 2 mode && eqb 1 mode ≡ false
+silent-within mode = by-test (eqb 1 mode) refl
+  where
+    by-test : (b : Bool) → eqb 1 mode ≡ b → ltb 2 mode && b ≡ false
+    by-test true e = rw (le-ltb 2 mode (omega (arith, eqb-true 1 mode e))) refl
+    by-test false e = and-false (ltb 2 mode)
 
 -- a report, and an answer
 report-taken : (s : State) (report : Report) (after : State) →
@@ -82,16 +120,20 @@ module _ (n : Network) (g : InRange n) (e : Seen) (h : OwnHistory) (r : Ran n (e
   unfolding Ran
   fits = r .0
 
-  -- what concerns the network is accepted where it takes it
-  replied : (sight : Sight) → e .sight ≡ sight → concerns sight ≡ true → e .accepted ≡ isTaken (played n s sight .reply)
-  replied sight f c = fits .accepted (ap concerns f ∙ c) ∙ ap (λ (x : Sight). isTaken (played n s x .reply)) f
+  -- what concerns the network has the number of its reply
+  numbered : (sight : Sight) → e .sight ≡ sight → concerns sight ≡ true → e .number ≡ replyNumber (played n s sight .reply)
+  numbered sight f c = fits .number (ap concerns f ∙ c) ∙ ap (λ (x : Sight). replyNumber (played n s x .reply)) f
+
+  -- and is accepted where the network takes it
+  replied : (sight : Sight) → e .sight ≡ sight → concerns sight ≡ true → accepted e ≡ isTaken (played n s sight .reply)
+  replied sight f c = ap (eqb 0) (numbered sight f c) ∙ reply-accepted (played n s sight .reply)
 
   pub bus-offs : BusOffs n e h
   unfolding recovery
   bus-offs =
       let i = stands n g h before in
       by-part n s (λ e t. BusOffs n e h) (record {
-        plain = λ sight accepted mode reported p. record {
+        plain = λ sight number mode reported p. record {
           records = λ f. absurd (false≢true (sym (p .bus-off) ∙ f));
           accepted = λ f. absurd (false≢true (sym (p .bus-off) ∙ f));
         };
@@ -116,9 +158,24 @@ module _ (n : Network) (g : InRange n) (e : Seen) (h : OwnHistory) (r : Ran n (e
       silenced : Bool → List Record
       silenced b = cond b (records.handed 6 (n .handle) 1 ∷ []) []
 
-  pub requests : Requests n e h
+  -- a request, by the phase of the step
+  requested : (mode : ℕ) → e .sight ≡ aRequest mode → whichIs (e .number) ≡ due (phaseOf (s .step)) (ltb 2 mode) (eqb 1 mode)
   unfolding played
-  requests = record { accepted = λ mode f. replied (aRequest mode) f refl ∙ request-taken s mode ∙ rw (up-means n h before) refl }
+  requested mode f =
+      ap whichIs (numbered (aRequest mode) f refl ∙ request-number s mode)
+      ∙ request-due (phaseOf (s .step)) (ltb 2 mode) (eqb 1 mode) (silent-within mode)
+
+  pub requests : Requests n e h
+  requests =
+      let i = stands n g h before in
+      let u = up-means n h before in
+      record {
+        accepted = λ mode f. ap (λ (w : Which). w .accepted) (requested mode f) ∙ rw (within mode 2, u) refl;
+        out-of-range = λ mode f. ap (λ (w : Which). w .out-of-range) (requested mode f);
+        asleep = λ mode f. ap (λ (w : Which). w .asleep) (requested mode f) ∙ rw (i .on, i .rested) refl;
+        coming-up = λ mode f. ap (λ (w : Which). w .coming-up) (requested mode f) ∙ rw (i .on, u) refl;
+        going-down = λ mode f. ap (λ (w : Which). w .going-down) (requested mode f) ∙ rw (i .rested) refl;
+      }
 
   pub answers : Answers n e h
   unfolding played reportPart

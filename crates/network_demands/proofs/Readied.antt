@@ -31,7 +31,7 @@ use Rattle.network.specs.Answers.{awaits, takesReport, answerOf}
 use Rattle.network.specs.BusOff.{madeAnew, afterHit}
 use Rattle.network.specs.Parts.{Sight, aTick, aBusOff, aStall, anAnswer, aRequest, aReport, nothing}
 use Rattle.network_theorems.specs.Kept.{Kept}
-use Rattle.network_demands.specs.Words.{Seen, OwnHistory, since, isAnswerOn}
+use Rattle.network_demands.specs.Words.{Seen, OwnHistory, accepted, since, isAnswerOn}
 use Rattle.network_demands.specs.Own.{finished, decides, reaches, tickAfter, tickHands, played, stateOf, Fits, Ran}
 use Rattle.network_demands.specs.Promises.{saidOk, isNormal, saysNormal, reportedNormal, sinceRest, Prepared}
 use Rattle.network_demands.proofs.Views.{seen, seatOf, heardState, plainState, takesSight, Plain, by-part}
@@ -112,14 +112,14 @@ module _ (n : Network) where
   onward answers answers′ reported reported′ q q′ Phase.Resetting ask o i = tt
 
   -- an entry that is no accepted answer of the network's controllers on stopped leaves who said so
-  pub said-on : (e : Seen) (q : OwnHistory) (c : ℕ) → isAnswerOn c 0 1 (e .sight) && e .accepted ≡ false
-      → isAnswerOn c 0 0 (e .sight) && e .accepted ≡ false → saidOk c 0 (e ∷ q) ≡ saidOk c 0 q
+  pub said-on : (e : Seen) (q : OwnHistory) (c : ℕ) → isAnswerOn c 0 1 (e .sight) && accepted e ≡ false
+      → isAnswerOn c 0 0 (e .sight) && accepted e ≡ false → saidOk c 0 (e ∷ q) ≡ saidOk c 0 q
   unfolding saidOk
   said-on e q c a b = rw (a, b) refl
 
   -- such an entry, after which answers and report are the same
   unheard : (answers : List Heard) (reported : Bool) (q : OwnHistory) (step : Step) (e : Seen)
-      → ((c value : ℕ) → member c (controllersOf n) ≡ true → isAnswerOn c 0 value (e .sight) && e .accepted ≡ false)
+      → ((c value : ℕ) → member c (controllersOf n) ≡ true → isAnswerOn c 0 value (e .sight) && accepted e ≡ false)
       → Readied n step answers reported q → Readied n step answers reported (e ∷ q)
   unfolding any
   unheard answers reported q step e f = onward answers answers reported reported q (e ∷ q) (phaseOf step) (asksFor step) (record {
@@ -165,7 +165,7 @@ module _ (n : Network) where
     Moves step wanted m =
         (step ≡ TransceiverNormal → done ≡ true → reported ≡ true) → Readied n step answers reported q
         → Readied n (stepAfter m step (n .partial)) (cond (keepsAnswers m) answers blankAnswers) (cond (keepsAnswers m) reported false)
-        (cond (isEnd m) [] (seen aTick true records ∷ q))
+        (cond (isEnd m) [] (seen aTick 0 records ∷ q))
 
     moves : ByArrow done reached (ownOutfit n) Moves
     unfolding any saidOk
@@ -179,7 +179,7 @@ module _ (n : Network) where
       climbs = λ d f i. record { normal = λ t p. i (f refl d); stopped = λ c m o. absurd (false≢true (sym (no-answer-yet n c) ∙ o)) };
       begins = λ d f i. tt;
       starts = λ d f i. tt;
-      asks-again = λ step wanted a g f i. unheard answers reported q step (seen aTick true records) (λ c value m. refl) i;
+      asks-again = λ step wanted a g f i. unheard answers reported q step (seen aTick 0 records) (λ c value m. refl) i;
       checks = λ t r f i. tt;
       passes = λ t r f i. tt;
       stays-full = λ f i. tt;
@@ -198,7 +198,7 @@ module _ (n : Network) where
   module _ (g : InRange n) (s : State) (kept : Kept n s) (c mode ok : ℕ) (l : ltb 1 ok ≡ false) where
     -- the controller that answers with ok said so, the others as before
     own-said : (value : ℕ) → ltb 1 value ≡ false → member c (controllersOf n) ≡ true → eqb 0 mode ≡ true → (q : OwnHistory)
-        → saidOkay n (heardState n s c value .answers) c ≡ true → saidOk c 0 (seen (anAnswer c mode value) true [] ∷ q) ≡ true
+        → saidOkay n (heardState n s c value .answers) c ≡ true → saidOk c 0 (seen (anAnswer c mode value) 0 [] ∷ q) ≡ true
     unfolding saidOk
     own-said zero v m z q o = absurd (false≢true (sym (okay-own n s g kept c (heard LastAnswer.Refused) m) ∙ o))
     own-said (suc zero) v m z q o = rw (eqb-same c, z) refl
@@ -206,15 +206,15 @@ module _ (n : Network) where
 
     pub heard-stopped : (q : OwnHistory) → member c (controllersOf n) ≡ true → eqb 0 mode ≡ true → (d : ℕ) → member d (controllersOf n) ≡ true
         → (saidOkay n (s .answers) d ≡ true → saidOk d 0 q ≡ true) → saidOkay n (heardState n s c ok .answers) d ≡ true
-        → saidOk d 0 (seen (anAnswer c mode ok) true [] ∷ q) ≡ true
+        → saidOk d 0 (seen (anAnswer c mode ok) 0 [] ∷ q) ≡ true
     heard-stopped q m z d p before o = by-test (eqb d c) refl
       where
-        by-test : (b : Bool) → eqb d c ≡ b → saidOk d 0 (seen (anAnswer c mode ok) true [] ∷ q) ≡ true
+        by-test : (b : Bool) → eqb d c ≡ b → saidOk d 0 (seen (anAnswer c mode ok) 0 [] ∷ q) ≡ true
         by-test true e =
-            subst (λ (x : ℕ). saidOkay n (heardState n s c ok .answers) x ≡ true → saidOk x 0 (seen (anAnswer c mode ok) true [] ∷ q) ≡ true)
+            subst (λ (x : ℕ). saidOkay n (heardState n s c ok .answers) x ≡ true → saidOk x 0 (seen (anAnswer c mode ok) 0 [] ∷ q) ≡ true)
             (sym (eqb-true d c e)) (own-said ok l m z q) o
         by-test false e =
-            said-on (seen (anAnswer c mode ok) true []) q d (rw e refl) (rw e refl)
+            said-on (seen (anAnswer c mode ok) 0 []) q d (rw e refl) (rw e refl)
             ∙ before (sym (okay-other n (s .answers) d c (heard (answerOf (eqb ok 1))) e p m) ∙ o)
 
   -- ---- all that is seen
@@ -231,7 +231,7 @@ module _ (n : Network) where
     -- an answer that is taken
     module _ (c mode ok : ℕ) (l : ltb 1 ok ≡ false) (t : takesReport s (Report.Controller mode) ≡ true) where
       abbrev answering : Seen
-      answering = seen (anAnswer c mode ok) true []
+      answering = seen (anAnswer c mode ok) 0 []
 
       heard-readied : member c (controllersOf n) ≡ true → Still answering (heardState n s c ok)
       unfolding since any
@@ -265,33 +265,33 @@ module _ (n : Network) where
     normal-sight nothing a e = e
 
     -- a report has come before, or with this entry
-    normal-now : (sight : Sight) (accepted : Bool) (q : OwnHistory) → s .reported || (takesSight s sight && accepted) ≡ true
+    normal-now : (sight : Sight) (number : ℕ) (q : OwnHistory) → s .reported || (takesSight s sight && eqb 0 number) ≡ true
         → asksFor (s .step) ≡ Ask.Transceiver TransceiverMode.Normal → (s .reported ≡ true → any reportedNormal q ≡ true)
-        → any reportedNormal (seen sight accepted [] ∷ q) ≡ true
+        → any reportedNormal (seen sight number [] ∷ q) ≡ true
     unfolding any
-    normal-now sight accepted q e a before = by-test (s .reported) e before
+    normal-now sight number q e a before = by-test (s .reported) e before
       where
-        by-test : (b : Bool) → b || (takesSight s sight && accepted) ≡ true → (b ≡ true → any reportedNormal q ≡ true)
-            → (saysNormal sight && accepted) || any reportedNormal q ≡ true
-        by-test true e before = or-second (saysNormal sight && accepted) _ (before refl)
+        by-test : (b : Bool) → b || (takesSight s sight && eqb 0 number) ≡ true → (b ≡ true → any reportedNormal q ≡ true)
+            → (saysNormal sight && eqb 0 number) || any reportedNormal q ≡ true
+        by-test true e before = or-second (saysNormal sight && eqb 0 number) _ (before refl)
         by-test false e before =
-            let x = and-both (takesSight s sight) accepted e in
+            let x = and-both (takesSight s sight) (eqb 0 number) e in
             rw (normal-sight sight a (x .0), x .1) refl
 
     -- what hands out nothing and is no answer to the network
-    plain-readied : (sight : Sight) (accepted : Bool) (mode : Mode) (reported : Bool) → Plain n s sight accepted mode reported
-        → Still (seen sight accepted []) (plainState s mode reported)
+    plain-readied : (sight : Sight) (number : ℕ) (mode : Mode) (reported : Bool) → Plain n s sight (eqb 0 number) mode reported
+        → Still (seen sight number []) (plainState s mode reported)
     unfolding since any
-    plain-readied sight accepted mode reported p =
-        let e : Seen = seen sight accepted [] in
+    plain-readied sight number mode reported p =
+        let e : Seen = seen sight number [] in
         onward (s .answers) (s .answers) (s .reported) reported (sinceRest n h) (e ∷ sinceRest n h)
         (phaseOf (s .step)) (asksFor (s .step)) (record {
           normal = λ a. or-second (reportedNormal e) _ a;
-          reports = λ r a before. normal-now sight accepted (sinceRest n h) (sym (p .reports) ∙ r) a before;
+          reports = λ r a before. normal-now sight number (sinceRest n h) (sym (p .reports) ∙ r) a before;
           stopped = λ _ c m before o. said-on e (sinceRest n h) c (p .answer c 0 1 m) (p .answer c 0 0 m) ∙ before o;
         }) i
 
-    ticks-readied : Still (seen aTick true (tickHands n s)) (tickAfter n s)
+    ticks-readied : Still (seen aTick 0 (tickHands n s)) (tickAfter n s)
     unfolding afterMove since
     ticks-readied =
         rw (move-says-no n (s .step) (s .told) (decides n s))
@@ -305,7 +305,7 @@ module _ (n : Network) where
       hears = λ c mode ok m l t. heard-readied c mode ok l t m;
       recovers = λ _. tt;
       restarts = λ _ a. starting-readied _ _ _ (phaseOf (s .step)) (asksFor (s .step)) a;
-      not-taken = λ _ _. unheard (s .answers) (s .reported) (sinceRest n h) (s .step) (seen aBusOff false []) (λ c value m. refl) i;
+      not-taken = λ _ _. unheard (s .answers) (s .reported) (sinceRest n h) (s .step) (seen aBusOff 0x22 []) (λ c value m. refl) i;
       resets = λ _. tt;
       ticks = ticks-readied;
     })

@@ -9,7 +9,7 @@ use Rattle.settings.specs.declared.Network.{Network}
 use Rattle.settings.specs.Settings.{controllersOf, member}
 use Rattle.settings.specs.Good.{InRange}
 use Rattle.network_demands.specs.Words.{hands, Seen, OwnHistory, since, tally, isAnswer, ticked, stalled, setback, fellUp, delayAt, owed}
-use Rattle.network_demands.specs.Words.{afterStall, askedToStart, runs, allRun, firstRunning}
+use Rattle.network_demands.specs.Words.{accepted, afterStall, askedToStart, runs, allRun, firstRunning}
 use Rattle.network_demands.proofs.Handed.{eqb-same}
 use Rattle.network_demands.proofs.Slots.{every-member}
 
@@ -36,8 +36,8 @@ unfolding runs
 asked-first c [] a = refl
 asked-first c (e ∷ h) a =
     let earlier = any-append-right (hands 1 c 1) (e ∷ []) h a in
-    split (λ (b : Bool). b ≡ false) (isAnswer c 1 (e .sight) && e .accepted) (λ _. earlier)
-    (λ _. split (λ (b : Bool). b ≡ false) (isAnswer c 0 (e .sight) && e .accepted) (λ _. refl) (λ _. asked-first c h earlier))
+    split (λ (b : Bool). b ≡ false) (isAnswer c 1 (e .sight) && accepted e) (λ _. earlier)
+    (λ _. split (λ (b : Bool). b ≡ false) (isAnswer c 0 (e .sight) && accepted e) (λ _. refl) (λ _. asked-first c h earlier))
 
 module _ (n : Network) where
   -- the first tick before which all controllers run: it stays the first

@@ -12,7 +12,7 @@ use Rattle.network.specs.Parts.{Sight, aTick, aBusOff, aStall, anAnswer, aReque
 use Rattle.network_theorems.proofs.Theorems.{checked-or-full-means-told-full}
 use Rattle.network_demands.specs.Words.{Seen, OwnHistory, since, never, tally, isBusOff, isStall, ticked, fell, stalled, shut, setback}
 use Rattle.network_demands.specs.Words.{told, wantedAtTick, up, fellUp, delayAt, owed, afterStall, firstRunning, duly, Delayed, LateAnswers}
-use Rattle.network_demands.specs.Words.{LateAfterStall}
+use Rattle.network_demands.specs.Words.{accepted, LateAfterStall}
 use Rattle.network_demands.specs.Own.{stateOf, Ran}
 use Rattle.network_demands.proofs.Views.{by-part}
 use Rattle.network_demands.proofs.Follows.{state-kept, told-follows}
@@ -67,7 +67,7 @@ module _ (n : Network) (s : OwnHistory) (b : Seen) (h : OwnHistory) (u : fellUp 
 
   pub no-stall-last : afterStall n (s ++ (b ∷ h)) ≡ false
   unfolding afterStall
-  no-stall-last = stall-on n s (b ∷ h) f ∙ rw fell-back (no-stall (b .sight) (b .accepted) (and-both (fell b) (up n h) u .0))
+  no-stall-last = stall-on n s (b ∷ h) f ∙ rw fell-back (no-stall (b .sight) (accepted b) (and-both (fell b) (up n h) u .0))
     where
       no-stall : (sight : Sight) (accepted : Bool) → isBusOff sight ≡ true → isStall sight && accepted ≡ false
       no-stall aTick accepted e = refl
@@ -86,7 +86,7 @@ module _ (n : Network) (s : OwnHistory) (b : Seen) (h : OwnHistory) (u : stalled
   -- after it no delay is owed, and it came last
   pub owed-stall : owed n (s ++ (b ∷ h)) ≡ 0
   unfolding owed
-  owed-stall = owed-on n s (b ∷ h) f ∙ rw (stalled-back, not-fell (b .sight) (and-both (isStall (b .sight)) (b .accepted) u .0)) refl
+  owed-stall = owed-on n s (b ∷ h) f ∙ rw (stalled-back, not-fell (b .sight) (and-both (isStall (b .sight)) (accepted b) u .0)) refl
     where
       not-fell : (sight : Sight) → isStall sight ≡ true → isBusOff sight ≡ false
       not-fell aTick e = refl
@@ -110,7 +110,7 @@ tally-more p e s = split (λ (k : ℕ). tally p s ≤ k) (p e) (λ _. omega arit
 pub stalls-when-full : (n : Network) → InRange n → (e : Seen) (h : OwnHistory) → Ran n (e ∷ h) → stalled e ≡ true → told n h ≡ 2
 unfolding Ran
 stalls-when-full n g e h r = by-part n (stateOf n h) (λ e t. stalled e ≡ true → told n h ≡ 2) (record {
-  plain = λ sight accepted mode reported p x. absurd (false≢true (sym (p .stall) ∙ x));
+  plain = λ sight number mode reported p x. absurd (false≢true (sym (p .stall) ∙ x));
   hears = λ c mode ok m l t x. absurd (false≢true x);
   recovers = λ u x. absurd (false≢true x);
   restarts = λ u a x. absurd (false≢true x);

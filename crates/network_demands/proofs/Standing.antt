@@ -141,16 +141,16 @@ both-on false false false w c = refl
 
 module _ (n : Network) (h : OwnHistory) where
   -- what is no tick and hands out nothing
-  stands-quiet : (step : Step) (sight : Sight) (accepted : Bool) → isTick sight ≡ false → StandsIn n step h
-      → StandsIn n step (seen sight accepted [] ∷ h)
+  stands-quiet : (step : Step) (sight : Sight) (number : ℕ) → isTick sight ≡ false → StandsIn n step h
+      → StandsIn n step (seen sight number [] ∷ h)
   unfolding since any calledUp
-  stands-quiet step sight accepted t i =
+  stands-quiet step sight number t i =
       record { rested = i .rested; on = rw t (i .on); begun = i .begun; suited = i .suited }
 
   -- a bus-off while up, or a stall: the network is up before it and after it
   module _ (step next : Step) (sight : Sight) (records : List Record) where
     abbrev striking : Seen
-    striking = seen sight true records
+    striking = seen sight 0 records
 
     stands-struck : isTick sight ≡ false → hands 6 (n .handle) 0 striking ≡ false → shut n striking ≡ false
         → ((c : ℕ) → hands 1 c 1 striking ≡ false) → isUp step ≡ true → isUp next ≡ true → suits (ownOutfit n) next ≡ true
@@ -171,7 +171,7 @@ module _ (n : Network) (h : OwnHistory) where
   -- a tick
   module _ (step : Step) (mode told : Mode) (m : Move) where
     abbrev ticking : Seen
-    ticking = seen aTick true (moveRecords n step told m)
+    ticking = seen aTick 0 (moveRecords n step told m)
 
     called-move : calledUp n (ticking ∷ h) ≡ cond (isEnd m) false (eqb 2 (wanted h) || calledUp n h)
     unfolding calledUp
@@ -195,11 +195,11 @@ module _ (n : Network) (h : OwnHistory) where
       → StandsIn n (played n s (e .sight) .state .step) (e ∷ h)
   unfolding afterMove afterHit madeAnew any recovery reset
   stands-call g s k w i = by-part n s (λ e t. StandsIn n (t .step) (e ∷ h)) (record {
-    plain = λ sight accepted mode reported p. stands-quiet (s .step) sight accepted (p .tick) i;
-    hears = λ c mode ok m l e. stands-quiet (s .step) _ true refl i;
+    plain = λ sight number mode reported p. stands-quiet (s .step) sight number (p .tick) i;
+    hears = λ c mode ok m l e. stands-quiet (s .step) _ 0 refl i;
     recovers = λ u. stands-struck (s .step) _ aBusOff (recovery (n .handle)) refl refl refl (λ c. refl) u refl refl i;
-    restarts = λ u a. stands-quiet (s .step) aBusOff true refl i;
-    not-taken = λ u a. stands-quiet (s .step) aBusOff false refl i;
+    restarts = λ u a. stands-quiet (s .step) aBusOff 0 refl i;
+    not-taken = λ u a. stands-quiet (s .step) aBusOff 0x22 refl i;
     resets = λ f. stands-struck (s .step) _ aStall (reset (n .handle)) refl refl refl (λ c. refl) (full-quiet (s .step) f .up) refl refl i;
     ticks = stands-move (s .step) (s .wanted) _ (decides n s) w i
         (by-tick-arrow n s (Carries n) (carries n g (finished n s) (reaches n s)) (i .suited) k);
@@ -250,7 +250,7 @@ module _ (n : Network) (kind target argument : ℕ) (report : Report) (q : Reque
       → awaited kind target argument (e ∷ h) ≡ takesReport (played n s (e .sight) .state) report
   unfolding awaited takesReport afterMove afterHit madeAnew any
   awaits-call h s k u i = by-part n s (λ e t. awaited kind target argument (e ∷ h) ≡ takesReport t report) (record {
-    plain = λ sight accepted mode reported p. rw (p .tick, p .bus-off, p .stall) i;
+    plain = λ sight number mode reported p. rw (p .tick, p .bus-off, p .stall) i;
     hears = λ c mode ok m l e. i;
     recovers = λ u. refl;
     restarts = λ u a. refl;

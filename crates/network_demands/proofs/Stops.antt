@@ -61,7 +61,7 @@ module _ (n : Network) (answers : List Heard) (q : OwnHistory) (records : List R
   -- what a move makes of it
   abbrev Moves : Step → Mode → Move → Type 0
   Moves step wanted m = Stopping n step answers q
-      → Stopping n (stepAfter m step (n .partial)) (cond (keepsAnswers m) answers blankAnswers) (cond (isGoDown m) [] (seen aTick true records ∷ q))
+      → Stopping n (stepAfter m step (n .partial)) (cond (keepsAnswers m) answers blankAnswers) (cond (isGoDown m) [] (seen aTick 0 records ∷ q))
 
   moves : ByArrow done reached (ownOutfit n) Moves
   unfolding saidOk
@@ -99,10 +99,10 @@ module _ (n : Network) (g : InRange n) (h : OwnHistory) (s : State) (kept : Kept
   taken-stopped mode t f =
       sym (ap (λ (x : Step). awaits (asksFor x) (Report.Controller mode)) f) ∙ once-asked (s .asked) _ t
 
-  stopping-tick : Still (seen aTick true (tickHands n s)) (tickAfter n s)
+  stopping-tick : Still (seen aTick 0 (tickHands n s)) (tickAfter n s)
   unfolding afterMove
   stopping-tick =
-      let e : Seen = seen aTick true (tickHands n s) in
+      let e : Seen = seen aTick 0 (tickHands n s) in
       let m = decides n s in
       rw (since-by n e h (isGoDown m) (move-shuts n (s .step) _ m))
       (by-tick-arrow n s (Moves n (s .answers) (since (setback n) h) (tickHands n s) (finished n s) (reaches n s))
@@ -111,12 +111,12 @@ module _ (n : Network) (g : InRange n) (h : OwnHistory) (s : State) (kept : Kept
   stopping-call : (e : Seen) → Fits n s e → Still e (played n s (e .sight) .state)
   unfolding any afterHit madeAnew
   stopping-call = by-part n s Still (record {
-    plain = λ sight accepted mode reported p f c m o.
-        let e : Seen = seen sight accepted [] in
+    plain = λ sight number mode reported p f c m o.
+        let e : Seen = seen sight number [] in
         ap (saidOk c 0) (since-by n e h false (rw (p .bus-off, p .stall) refl))
         ∙ said-on n e (since (setback n) h) c (p .answer c 0 1 m) (p .answer c 0 0 m) ∙ i f c m o;
     hears = λ c mode ok m l t f d own o.
-        let e : Seen = seen (anAnswer c mode ok) true [] in
+        let e : Seen = seen (anAnswer c mode ok) 0 [] in
         ap (saidOk d 0) (since-by n e h false refl)
         ∙ heard-stopped n g s kept c mode ok l (since (setback n) h) m (taken-stopped mode t f) d own (i f d own) o;
     recovers = λ _. other _ 6 refl (λ e. omega (arith, e));

@@ -23,7 +23,7 @@ use Rattle.network_theorems.specs.Kept.{isFullMode}
 use Rattle.network_theorems.proofs.Moves.{ByMove}
 use Rattle.network_theorems.proofs.Kept.{lowered-not-full}
 use Rattle.network_demands.specs.Words.{hands, Seen, OwnHistory, since, never, tally, isAnswerOn, isAnswer, ticked, fell, stalled, shut, told}
-use Rattle.network_demands.specs.Words.{wanted}
+use Rattle.network_demands.specs.Words.{accepted, wanted}
 use Rattle.network_demands.specs.Words.{setback, up, fellUp, falls, delayAt, owed, askedToStart, runs, firstRunning, fullAtTicks, waiting}
 use Rattle.network_demands.specs.Words.{promptly, saysNo, wantedAtTick}
 use Rattle.network_demands.specs.Words.{GoodConditions, OnJustThatTick, SaidFrom}
@@ -84,7 +84,7 @@ shut-when-no : (n : Network) → InRange n → (e : Seen) (h : OwnHistory) → R
     → (ticked e ≡ true) × (fell e ≡ false) × (eqb 0 (wanted h) ≡ true)
 unfolding Ran any recovery reset
 shut-when-no n g e h r = by-part n s (λ e t. shut n e ≡ true → (ticked e ≡ true) × (fell e ≡ false) × (eqb 0 (wanted h) ≡ true)) (record {
-  plain = λ sight accepted mode reported p z. absurd (false≢true z);
+  plain = λ sight number mode reported p z. absurd (false≢true z);
   hears = λ c mode ok m l t z. absurd (false≢true z);
   recovers = λ u z. absurd (false≢true z);
   restarts = λ u a z. absurd (false≢true z);
@@ -169,7 +169,7 @@ pub says-full : (n : Network) → InRange n → (t : Seen) (h : OwnHistory) → 
 unfolding Ran stateOf any recovery reset afterMove afterHit madeAnew
 says-full n g t h r =
     by-part n w (λ e x. hands 6 (n .handle) 2 e ≡ (isFullMode (x .told) && not (isFullMode (w .told)))) (record {
-      plain = λ sight accepted mode reported p. both-not (isFullMode (w .told));
+      plain = λ sight number mode reported p. both-not (isFullMode (w .told));
       hears = λ c mode ok m l e. both-not (isFullMode (w .told));
       recovers = λ u. refl;
       restarts = λ u a. both-not (isFullMode (w .told));
@@ -192,12 +192,12 @@ ran-earlier n (e ∷ s) h r = ran-earlier n s h (r .1)
 
 -- who does not say no does not answer with not ok
 pub not-no : (mode : ℕ) (n : Network) (e : Seen) → saysNo mode n e ≡ false → (c : ℕ) → member c (controllersOf n) ≡ true
-    → isAnswerOn c mode 0 (e .sight) && e .accepted ≡ false
-not-no mode n e f c m = by-test (isAnswerOn c mode 0 (e .sight) && e .accepted) refl
+    → isAnswerOn c mode 0 (e .sight) && accepted e ≡ false
+not-no mode n e f c m = by-test (isAnswerOn c mode 0 (e .sight) && accepted e) refl
   where
-    by-test : (b : Bool) → isAnswerOn c mode 0 (e .sight) && e .accepted ≡ b → b ≡ false
+    by-test : (b : Bool) → isAnswerOn c mode 0 (e .sight) && accepted e ≡ b → b ≡ false
     by-test true q =
-        absurd (true≢false (sym (any-member (λ (c : ℕ). isAnswerOn c mode 0 (e .sight) && e .accepted) c (controllersOf n) m q) ∙ f))
+        absurd (true≢false (sym (any-member (λ (c : ℕ). isAnswerOn c mode 0 (e .sight) && accepted e) c (controllersOf n) m q) ∙ f))
     by-test false q = refl
 
 -- where there is no such tick yet there was none before
@@ -247,9 +247,9 @@ module _ (n : Network) (g : InRange n) (f : Distinct (controllersOf n)) (b : See
         since-b (asked-by-tick n g f (all s) r still-owed)
 
     accepted-since : firstRunning n s ≡ 0 → (e : Seen) → Fits n (stateOf n (all s)) e → 0 < tally ticked s
-        → (c : ℕ) → member c (controllersOf n) ≡ true → isAnswer c 1 (e .sight) ≡ true → e .accepted ≡ true
+        → (c : ℕ) → member c (controllersOf n) ≡ true → isAnswer c 1 (e .sight) ≡ true → accepted e ≡ true
     accepted-since = subst (λ (q : OwnHistory). firstRunning n q ≡ 0 → (e : Seen) → Fits n (stateOf n (all s)) e → 0 < tally ticked q
-        → (c : ℕ) → member c (controllersOf n) ≡ true → isAnswer c 1 (e .sight) ≡ true → e .accepted ≡ true)
+        → (c : ℕ) → member c (controllersOf n) ≡ true → isAnswer c 1 (e .sight) ≡ true → accepted e ≡ true)
         since-b (okay-accepted n g f (all s) r still-owed)
 
   -- who is not waited for, once a tick came, runs: an entry more
@@ -266,7 +266,7 @@ module _ (n : Network) (g : InRange n) (f : Distinct (controllersOf n)) (b : See
       now = asked-since (e ∷ s) r i z c m ∙ lt-ltb 0 (tally ticked (e ∷ s)) l
 
       by-answer : (a : Bool) → isAnswer c 1 (e .sight) ≡ a → askedToStart c s ≡ true → cond a false (waiting 1 c s) ≡ false
-          → cond (a && e .accepted) (askedToStart c s) (cond (isAnswer c 0 (e .sight) && e .accepted) false (runs c s)) ≡ true
+          → cond (a && accepted e) (askedToStart c s) (cond (isAnswer c 0 (e .sight) && accepted e) false (runs c s)) ≡ true
       by-answer true o asked q =
           let some = ltb-true 0 (tally ticked s) (sym before ∙ asked) in
           rw (accepted-since s (r .1) (shorter n e s (b ∷ h) i) (first-before n e s z) e (r .0) some c m o) asked

@@ -78,10 +78,10 @@ module _ (n : Network) (g : InRange n) (s : State) (kept : Kept n s) (q : OwnHis
   unfolding takesReport
   takes k = rw (i .asked, i .at, asks) refl
 
-  asking-plain : (sight : Sight) (accepted : Bool) (wanted : Mode) (reported : Bool) → Plain n s sight accepted wanted reported
-      → Asking n (plainState s wanted reported) (seen sight accepted [] ∷ q) mode step
+  asking-plain : (sight : Sight) (number : ℕ) (wanted : Mode) (reported : Bool) → Plain n s sight (eqb 0 number) wanted reported
+      → Asking n (plainState s wanted reported) (seen sight number [] ∷ q) mode step
   unfolding any waiting
-  asking-plain sight accepted wanted reported p =
+  asking-plain sight number wanted reported p =
       record { at = i .at; asked = i .asked; told = i .told; okay = λ c m z. by-answer c m (isAnswerOn c (controllerNumber mode) 1 sight) refl z }
     where
       by-answer : (c : ℕ) → member c (controllersOf n) ≡ true → (b : Bool) → isAnswerOn c (controllerNumber mode) 1 sight ≡ b
@@ -91,8 +91,8 @@ module _ (n : Network) (g : InRange n) (s : State) (kept : Kept n s) (q : OwnHis
       by-answer c m false a z = i .okay c m z
 
   asking-heard : (c k ok : ℕ) → member c (controllersOf n) ≡ true → ltb 1 ok ≡ false → takesReport s (Report.Controller k) ≡ true
-      → saysNo (controllerNumber mode) n (seen (anAnswer c k ok) true []) ≡ false
-      → Asking n (heardState n s c ok) (seen (anAnswer c k ok) true [] ∷ q) mode step
+      → saysNo (controllerNumber mode) n (seen (anAnswer c k ok) 0 []) ≡ false
+      → Asking n (heardState n s c ok) (seen (anAnswer c k ok) 0 [] ∷ q) mode step
   unfolding any waiting
   asking-heard c k ok own l t only =
       record { at = i .at; asked = i .asked; told = i .told; okay = λ d m z. by-own d m (eqb d c) refl z }
@@ -100,10 +100,10 @@ module _ (n : Network) (g : InRange n) (s : State) (kept : Kept n s) (q : OwnHis
       same : eqb (controllerNumber mode) k ≡ true
       same = sym (takes k) ∙ t
 
-      said : (value : ℕ) → ltb 1 value ≡ false → saysNo (controllerNumber mode) n (seen (anAnswer c k value) true []) ≡ false
+      said : (value : ℕ) → ltb 1 value ≡ false → saysNo (controllerNumber mode) n (seen (anAnswer c k value) 0 []) ≡ false
           → isOkay (heard (answerOf (eqb value 1))) ≡ true
       said zero v o =
-          absurd (true≢false (sym (rw (eqb-same c, same) refl) ∙ not-no (controllerNumber mode) n (seen (anAnswer c k 0) true []) o c own))
+          absurd (true≢false (sym (rw (eqb-same c, same) refl) ∙ not-no (controllerNumber mode) n (seen (anAnswer c k 0) 0 []) o c own))
       said (suc zero) v o = refl
       said (suc (suc value)) v o = absurd (omega (arith, ltb-false 1 (suc (suc value)) v))
 
@@ -125,7 +125,7 @@ module _ (n : Network) (g : InRange n) (s : State) (kept : Kept n s) (q : OwnHis
 -- ---- ticks
 module _ (n : Network) (s : State) (w : s .wanted ≡ Mode.Full) where
   abbrev ticking : Seen
-  ticking = seen aTick true (tickHands n s)
+  ticking = seen aTick 0 (tickHands n s)
 
   -- what steps 15 and 16 decide
   at-15 : s .step ≡ ResetStopped → decides n s ≡ cond (finished n s) (Enter ResetStarted) AskAgain
@@ -195,18 +195,18 @@ module _ (n : Network) (g : InRange n) (f : Distinct (controllersOf n)) (b : See
     kept : Kept n s
     kept = state-kept n g (all q) r
 
-    goes-plain : (sight : Sight) (accepted : Bool) (mode : Mode) (reported : Bool) → Plain n s sight accepted mode reported → (ticks : ℕ)
-        → Goes n s q ticks → Goes n (plainState s mode reported) (seen sight accepted [] ∷ q) ticks
-    goes-plain sight accepted mode reported p zero i = i
-    goes-plain sight accepted mode reported p (suc zero) i =
-        asking-plain n g s kept q ControllerMode.Stopped ResetStopped refl i sight accepted mode reported p
-    goes-plain sight accepted mode reported p (suc (suc zero)) i =
-        asking-plain n g s kept q ControllerMode.Started ResetStarted refl i sight accepted mode reported p
-    goes-plain sight accepted mode reported p (suc (suc (suc ticks))) i = i
+    goes-plain : (sight : Sight) (number : ℕ) (mode : Mode) (reported : Bool) → Plain n s sight (eqb 0 number) mode reported → (ticks : ℕ)
+        → Goes n s q ticks → Goes n (plainState s mode reported) (seen sight number [] ∷ q) ticks
+    goes-plain sight number mode reported p zero i = i
+    goes-plain sight number mode reported p (suc zero) i =
+        asking-plain n g s kept q ControllerMode.Stopped ResetStopped refl i sight number mode reported p
+    goes-plain sight number mode reported p (suc (suc zero)) i =
+        asking-plain n g s kept q ControllerMode.Started ResetStarted refl i sight number mode reported p
+    goes-plain sight number mode reported p (suc (suc (suc ticks))) i = i
 
     goes-heard : (c mode ok : ℕ) → member c (controllersOf n) ≡ true → ltb 1 ok ≡ false → takesReport s (Report.Controller mode) ≡ true
-        → GoodReset n (seen (anAnswer c mode ok) true [] ∷ q) (b ∷ h) → (ticks : ℕ) → Goes n s q ticks
-        → Goes n (heardState n s c ok) (seen (anAnswer c mode ok) true [] ∷ q) ticks
+        → GoodReset n (seen (anAnswer c mode ok) 0 [] ∷ q) (b ∷ h) → (ticks : ℕ) → Goes n s q ticks
+        → Goes n (heardState n s c ok) (seen (anAnswer c mode ok) 0 [] ∷ q) ticks
     unfolding takesReport
     goes-heard c mode ok m l t good zero i = i
     goes-heard c mode ok m l t good (suc zero) i =
@@ -215,13 +215,13 @@ module _ (n : Network) (g : InRange n) (f : Distinct (controllersOf n)) (b : See
         asking-heard n g s kept q ControllerMode.Started ResetStarted refl i c mode ok m l t (never-first (saysNo 1 n) _ q (good .good .only-ok))
     goes-heard c mode ok m l t good (suc (suc (suc ticks))) i = i
 
-    goes-tick : GoodReset n (seen aTick true (tickHands n s) ∷ q) (b ∷ h) → (ticks : ℕ) → Goes n s q ticks
-        → Goes n (tickAfter n s) (seen aTick true (tickHands n s) ∷ q) (suc ticks)
+    goes-tick : GoodReset n (seen aTick 0 (tickHands n s) ∷ q) (b ∷ h) → (ticks : ℕ) → Goes n s q ticks
+        → Goes n (tickAfter n s) (seen aTick 0 (tickHands n s) ∷ q) (suc ticks)
     unfolding afterMove
     goes-tick good ticks i = by-ticks ticks i
       where
         e : Seen
-        e = seen aTick true (tickHands n s)
+        e = seen aTick 0 (tickHands n s)
 
         full : s .wanted ≡ Mode.Full
         full = full-number (s .wanted) (wanted-follows n (all q) r ∙ full-more e q (b ∷ h) (good .good .full) .0 refl)
@@ -243,7 +243,7 @@ module _ (n : Network) (g : InRange n) (f : Distinct (controllersOf n)) (b : See
   goes-more e q r good i =
       by-part n (stateOf n (all q)) (λ e t. GoodReset n (e ∷ q) (b ∷ h) → Goes n t (e ∷ q) (cond (ticked e) (suc (tally ticked q)) (tally ticked q)))
       (record {
-        plain = λ sight accepted mode reported p _. rw (p .tick) (goes-plain q (r .1) sight accepted mode reported p (tally ticked q) i);
+        plain = λ sight number mode reported p _. rw (p .tick) (goes-plain q (r .1) sight number mode reported p (tally ticked q) i);
         hears = λ c mode ok m l t good. goes-heard q (r .1) c mode ok m l t good (tally ticked q) i;
         recovers = λ u good. absurd (true≢false (never-first fell _ q (good .good .calm)));
         restarts = λ u a good. absurd (true≢false (never-first fell _ q (good .good .calm)));
@@ -257,7 +257,7 @@ module _ (n : Network) (g : InRange n) (f : Distinct (controllersOf n)) (b : See
   unfolding Ran stateOf afterHit madeAnew
   goes-first r = by-part n (stateOf n h) (λ e t. stalled e ≡ true → (t .step ≡ ResetStopped) × (t .asked ≡ false) × (t .told ≡ Mode.Silent))
       (record {
-        plain = λ sight accepted mode reported p x. absurd (false≢true (sym (p .stall) ∙ x));
+        plain = λ sight number mode reported p x. absurd (false≢true (sym (p .stall) ∙ x));
         hears = λ c mode ok m l t x. absurd (false≢true x);
         recovers = λ u x. absurd (false≢true x);
         restarts = λ u a x. absurd (false≢true x);

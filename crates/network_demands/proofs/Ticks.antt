@@ -78,23 +78,23 @@ apart-ticks n e h t none notes prefails nothing =
     }
 
 -- nothing at all
-quiet-ticks : (n : Network) (sight : Sight) (accepted : Bool) (h : OwnHistory) → isTick sight ≡ false → isBusOff sight && up n h ≡ false
-    → Ticks n (seen sight accepted []) h
+quiet-ticks : (n : Network) (sight : Sight) (number : ℕ) (h : OwnHistory) → isTick sight ≡ false → isBusOff sight && up n h ≡ false
+    → Ticks n (seen sight number []) h
 unfolding any
-quiet-ticks n sight accepted h t f = apart-ticks n (seen sight accepted []) h t (λ p a b c. refl) (sym f) (sym f) (λ _ _. refl)
+quiet-ticks n sight number h t f = apart-ticks n (seen sight number []) h t (λ p a b c. refl) (sym f) (sym f) (λ _ _. refl)
 
 -- a bus-off while up
-fall-ticks : (n : Network) (h : OwnHistory) → up n h ≡ true → Ticks n (seen aBusOff true (recovery (n .handle))) h
+fall-ticks : (n : Network) (h : OwnHistory) → up n h ≡ true → Ticks n (seen aBusOff 0 (recovery (n .handle))) h
 unfolding any recovery
 fall-ticks n h u =
-    apart-ticks n (seen aBusOff true (recovery (n .handle))) h refl (λ p a b c. rw (a, b, c) refl)
+    apart-ticks n (seen aBusOff 0 (recovery (n .handle))) h refl (λ p a b c. rw (a, b, c) refl)
     (rw (eqb-same (n .handle)) (sym u)) (rw (eqb-same (n .handle)) (sym u)) (λ z _. absurd (true≢false z))
 
 -- a stall that is taken
-reset-ticks : (n : Network) (h : OwnHistory) → Ticks n (seen aStall true (reset (n .handle))) h
+reset-ticks : (n : Network) (h : OwnHistory) → Ticks n (seen aStall 0 (reset (n .handle))) h
 unfolding any reset
 reset-ticks n h =
-    apart-ticks n (seen aStall true (reset (n .handle))) h refl (λ p a b c. rw b refl) refl refl (λ _ z. absurd (true≢false z))
+    apart-ticks n (seen aStall 0 (reset (n .handle))) h refl (λ p a b c. rw b refl) refl refl (λ _ z. absurd (true≢false z))
 
 -- ---- a tick
 module _ (n : Network) (g : InRange n) (f : Distinct (controllersOf n)) (h : OwnHistory) (r : Ran n h) where
@@ -105,7 +105,7 @@ module _ (n : Network) (g : InRange n) (f : Distinct (controllersOf n)) (h : Own
   m = decides n s
 
   abbrev e : Seen
-  e = seen aTick true (tickHands n s)
+  e = seen aTick 0 (tickHands n s)
 
   kept : Kept n s
   kept = state-kept n g h r
@@ -120,7 +120,7 @@ module _ (n : Network) (g : InRange n) (f : Distinct (controllersOf n)) (h : Own
   was-full = told-in-full n g h r
 
   -- the notices of a shutdown, by the mode last told
-  shutdown : (move : Move) → isGoDown move ≡ true → Shutdown n (seen aTick true (moveRecords n (s .step) (s .told) move)) h
+  shutdown : (move : Move) → isGoDown move ≡ true → Shutdown n (seen aTick 0 (moveRecords n (s .step) (s .told) move)) h
   unfolding moveRecords goingDown downNotices
   shutdown Stay f = absurd (false≢true f)
   shutdown AskAgain f = absurd (false≢true f)
@@ -230,11 +230,11 @@ unfolding Ran stateOf afterMove
 ticks n g f e h r =
     let stands = up-means n h (r .1) in
     by-part n (stateOf n h) (λ e t. Kept n t → modeNumber (t .told) ≡ told n (e ∷ h) → Ran n (e ∷ h) → Ticks n e h) (record {
-      plain = λ sight accepted mode reported p _ _ _. quiet-ticks n sight accepted h (p .tick) (rw (p .bus-off) refl);
-      hears = λ c mode ok m l t _ _ _. quiet-ticks n (anAnswer c mode ok) true h refl refl;
+      plain = λ sight number mode reported p _ _ _. quiet-ticks n sight number h (p .tick) (rw (p .bus-off) refl);
+      hears = λ c mode ok m l t _ _ _. quiet-ticks n (anAnswer c mode ok) 0 h refl refl;
       recovers = λ u _ _ _. fall-ticks n h (stands ∙ u);
-      restarts = λ u a _ _ _. quiet-ticks n aBusOff true h refl (stands ∙ u);
-      not-taken = λ u a _ _ _. quiet-ticks n aBusOff false h refl (stands ∙ u);
+      restarts = λ u a _ _ _. quiet-ticks n aBusOff 0 h refl (stands ∙ u);
+      not-taken = λ u a _ _ _. quiet-ticks n aBusOff 0x22 h refl (stands ∙ u);
       resets = λ u _ _ _. reset-ticks n h;
       ticks = λ k t now. tick-ticks n g f h (r .1) now (ap (eqb 2) (sym t) ∙ full-mode-number (tickAfter n (stateOf n h) .told) ∙ k .told);
     }) e (r .0) (state-kept n g (e ∷ h) r) (follows n (e ∷ h) r .told) r

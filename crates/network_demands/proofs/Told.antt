@@ -36,7 +36,7 @@ use Rattle.network.specs.Parts.{aTick, aBusOff, aStall, anAnswer}
 use Rattle.network_theorems.specs.Kept.{isFullMode, Kept}
 use Rattle.network_theorems.proofs.Moves.{ByMove, by-move}
 use Rattle.network_demands.specs.Words.{is, Seen, OwnHistory, since, tally, isAnswer, ticked, setback, told, wanted, wantedAtTick, up, owed}
-use Rattle.network_demands.specs.Words.{afterStall, askedToStart, runs, allRun, firstRunning, Told, ToldNo, Answered}
+use Rattle.network_demands.specs.Words.{accepted, afterStall, askedToStart, runs, allRun, firstRunning, Told, ToldNo, Answered}
 use Rattle.network_demands.specs.Own.{finished, reaches, decides, tickAfter, tickHands, recovered, played, stateOf, Fits, Ran}
 use Rattle.network_demands.proofs.Views.{seen, by-part}
 use Rattle.network_demands.proofs.Tests.{finished-just, finished-asked, reaches-just}
@@ -48,7 +48,8 @@ use Rattle.network_demands.proofs.Follows.{state-kept, Follows, follows
 use Rattle.network_demands.proofs.Running.{since-by, owed-by, stall-by, asked-first, first-stays, first-tick, none-run}
 use Rattle.network_demands.proofs.Way.{Cause, comingUp, busOff, stall, Way, away, stopping, starting, delayed, there, silenced}
 use Rattle.network_demands.proofs.Way.{wayIn, causeIn, wayOf, isThere, down-away, down-comes-up, way-away, delayBy, isStallCause, Late}
-use Rattle.network_demands.proofs.Way.{soonest, later, first-down-away, full-there, to-start, Starts, Running, Away, Stands, StandsAt, stands-same}
+use Rattle.network_demands.proofs.Way.{soonest, later, first-down-away, full-there, to-start, Starts, Running, Away, Stands, StandsAt}
+use Rattle.network_demands.proofs.Way.{stands-same}
 use Rattle.network_demands.proofs.Way.{heard-stands, anew, nothing-since}
 
 -- ---- ticks
@@ -63,7 +64,7 @@ delay-range n g count = split (λ (x : ℕ). (1 ≤ x) × (x < 65536)) (isLong (
 -- q is what followed the last setback before the tick
 module _ (n : Network) (g : InRange n) (told : Mode) (asked : Bool) (answers : List Heard) (count : ℕ) (q : OwnHistory) (d : ℕ) (x : Bool) where
   abbrev ticking : List Record → Seen
-  ticking records = seen aTick true records
+  ticking records = seen aTick 0 records
 
   -- away, a tick that asks no controller to start leaves the network so
   still-away : (records : List Record) → ((c : ℕ) → any (is 1 c 1) records ≡ false) → Away n q d → Away n (ticking records ∷ q) d
@@ -308,11 +309,11 @@ module _ (n : Network) (g : InRange n) (f : Distinct (controllersOf n)) (h : Own
           (controllersOf n) (λ c m. sym (j .answered c m))
       by-test false e = sym (none-run n g (since (setback n) h) (λ c m. j .requested c m ∙ e))
 
-  stands-tick : StillStands (seen aTick true (tickHands n s)) (tickAfter n s)
+  stands-tick : StillStands (seen aTick 0 (tickHands n s)) (tickAfter n s)
   unfolding afterMove wantedAtTick
   stands-tick =
       let m = decides n s in
-      let e : Seen = seen aTick true (tickHands n s) in
+      let e : Seen = seen aTick 0 (tickHands n s) in
       let shuts : setback n e ≡ isGoDown m = move-shuts n (s .step) _ m in
       rw (since-by n e h (isGoDown m) shuts, owed-by n e h (isGoDown m) shuts, stall-by n e h (isGoDown m) shuts, ← v .wanted)
       (after n g _ (s .asked) (s .answers) (s .count) (since (setback n) h) (owed n h) (afterStall n h) (wantedAtTick h) (finished n s)
@@ -322,29 +323,29 @@ module _ (n : Network) (g : InRange n) (f : Distinct (controllersOf n)) (h : Own
   stands-call : (e : Seen) → Fits n s e → StillStands e (played n s (e .sight) .state)
   unfolding any runs wantedAtTick afterHit madeAnew
   stands-call = by-part n s StillStands (record {
-    plain = λ sight accepted wanted reported p.
-        let e : Seen = seen sight accepted [] in
+    plain = λ sight number wanted reported p.
+        let e : Seen = seen sight number [] in
         let calm : setback n e ≡ false = rw (p .bus-off, p .stall) refl in
         rw (since-by n e h false calm, owed-by n e h false calm, stall-by n e h false calm, p .tick)
         (stands-same n e (since (setback n) h) (p .tick) (λ c. refl) (λ c m. rw (p .answer c 1 1 m, p .answer c 1 0 m) refl)
         (wayOf (s .step)) (s .asked) (s .answers) (s .count) (owed n h) (wantedAtTick h) (afterStall n h) i);
     hears = λ c mode ok m l t.
-        let e : Seen = seen (anAnswer c mode ok) true [] in
+        let e : Seen = seen (anAnswer c mode ok) 0 [] in
         rw (since-by n e h false refl, owed-by n e h false refl, stall-by n e h false refl)
         (heard-stands n g s k c mode ok m l (since (setback n) h) t (owed n h) (wantedAtTick h) (afterStall n h) i);
     recovers = λ b.
-        let e : Seen = seen aBusOff true (recovery (n .handle)) in
+        let e : Seen = seen aBusOff 0 (recovery (n .handle)) in
         rw (since-by n e h true refl, owed-by n e h true refl, stall-by n e h true refl, u, b)
         (anew n busOff _ _ refl (sym (delay-follows n g (e ∷ h) (recovered s) (follows-fall n h s u v b))));
     restarts = λ b a.
-        let e : Seen = seen aBusOff true [] in
+        let e : Seen = seen aBusOff 0 [] in
         rw (since-by n e h true refl, owed-by n e h true refl, stall-by n e h true refl, u, b, a, down-comes-up (phaseOf (s .step)) b)
         (anew n comingUp _ 0 refl refl);
     not-taken = λ b a.
-        let e : Seen = seen aBusOff false [] in
+        let e : Seen = seen aBusOff 0x22 [] in
         rw (way-away (s .step) b a, since-by n e h true refl, owed-by n e h true refl, stall-by n e h true refl, u, b) (nothing-since n, refl);
     resets = λ b.
-        let e : Seen = seen aStall true (reset (n .handle)) in
+        let e : Seen = seen aStall 0 (reset (n .handle)) in
         rw (since-by n e h true refl, owed-by n e h true refl, stall-by n e h true refl) (nothing-since n, refl, λ a. absurd (false≢true a));
     ticks = stands-tick;
   })
@@ -465,10 +466,10 @@ module _ (n : Network) (g : InRange n) (f : Distinct (controllersOf n)) (h : Own
 
     -- and then an ok of one of them is accepted
     pub okay-accepted : (e : Seen) → Fits n w e → 0 < tally ticked q → (c : ℕ) → member c (controllersOf n) ≡ true → isAnswer c 1 (e .sight) ≡ true
-        → e .accepted ≡ true
+        → accepted e ≡ true
     unfolding takesReport
-    okay-accepted e fits some c m = by-part n w (λ e t. isAnswer c 1 (e .sight) ≡ true → e .accepted ≡ true) (record {
-      plain = λ sight accepted mode reported p a. absurd (true≢false (sym awaited ∙ p .deaf c ControllerMode.Started m a));
+    okay-accepted e fits some c m = by-part n w (λ e t. isAnswer c 1 (e .sight) ≡ true → accepted e ≡ true) (record {
+      plain = λ sight number mode reported p a. absurd (true≢false (sym awaited ∙ p .deaf c ControllerMode.Started m a));
       hears = λ c mode ok m l t a. refl;
       recovers = λ b a. refl;
       restarts = λ b s a. refl;

@@ -60,7 +60,7 @@ module _ (n : Network) (s : State) (u : suits (ownOutfit n) (s .step) ≡ true) 
   m = decides n s
 
   abbrev pub ticking : Seen
-  ticking = seen aTick true (tickHands n s)
+  ticking = seen aTick 0 (tickHands n s)
 
   -- a full step stays full exactly if full is wanted
   abbrev FullStays : Step → Mode → Move → Type 0

@@ -105,10 +105,10 @@ module _ (n : Network) (h : OwnHistory) (s : State) (k : Says n s h) where
         voice = λ u. same ∙ k .voice (sym step ∙ u);
       }
 
-  says-tick : StillSays (seen aTick true (tickHands n s)) (tickAfter n s)
+  says-tick : StillSays (seen aTick 0 (tickHands n s)) (tickAfter n s)
   unfolding afterMove
   says-tick =
-      let e : Seen = seen aTick true (tickHands n s) in
+      let e : Seen = seen aTick 0 (tickHands n s) in
       let m = decides n s in
       let full : hands 6 (n .handle) 2 e ≡ isEnterFull m = move-says-full n (s .step) _ m in
       let no : hands 6 (n .handle) 0 e ≡ isEnd m = move-says-no n (s .step) _ m in
@@ -126,7 +126,7 @@ module _ (n : Network) (h : OwnHistory) (s : State) (k : Says n s h) where
   says-call : (e : Seen) → Fits n s e → StillSays e (played n s (e .sight) .state)
   unfolding any recovery reset afterHit madeAnew
   says-call = by-part n s StillSays (record {
-    plain = λ sight accepted mode reported p. says-same _ _ refl refl refl refl refl;
+    plain = λ sight number mode reported p. says-same _ _ refl refl refl refl refl;
     hears = λ c mode ok m l e. says-same _ _ refl refl refl refl refl;
     recovers = λ u.
         says-same _ _ refl refl refl (sym u) (sym (k .silence ∙ ap not (k .voice u)));

@@ -20,6 +20,7 @@ use Rattle.handing.specs.Handing.{recovery, reset}
 use Rattle.network.specs.declared.Hit.{Hit}
 use Rattle.network.specs.declared.LastAnswer.{LastAnswer}
 use Rattle.network.specs.declared.Part.{Part}
+use Rattle.network.specs.declared.Refusal.{Refusal}
 use Rattle.network.specs.declared.Report.{Report}
 use Rattle.network.specs.declared.State.{State}
 use Rattle.network.specs.State.{heard, heardOf, wants}
@@ -27,12 +28,13 @@ use Rattle.network.specs.Rules.{isRefusal, outfitOf}
 use Rattle.network.specs.Answers.{awaits, takesReport, answerOf, withAnswers, afterAnswer, afterReport}
 use Rattle.network.specs.Moving.{afterMove}
 use Rattle.network.specs.BusOff.{hitOf, madeAnew, afterHit, hitRecords}
-use Rattle.network.specs.Parts.{Sight, aTick, aBusOff, aStall, anAnswer, aRequest, aReport, nothing, isTaken, hitReply, requestPart, reportPart}
+use Rattle.network.specs.Replies.{refusalNumber, replyNumber}
+use Rattle.network.specs.Parts.{Sight, aTick, aBusOff, aStall, anAnswer, aRequest, aReport, nothing, hitReply, requestPart, reportPart}
 use Rattle.network.specs.Parts.{answerPart}
 use Rattle.network_theorems.specs.Kept.{isFullMode, Kept}
 use Rattle.network_theorems.proofs.Moves.{ByMove, by-move}
 use Rattle.network_theorems.proofs.Kept.{move-kept, want-kept, hit-kept, answer-kept, report-kept}
-use Rattle.network_theorems.proofs.Parts.{by-hit, by-request, by-report, by-answer}
+use Rattle.network_theorems.proofs.Parts.{refusal-refuses, by-hit, by-request, by-report, by-answer}
 use Rattle.network_demands.specs.Words.{Seen, isTick, isBusOff, isStall, isAnswerOn, wantedBy}
 use Rattle.network_demands.specs.Own.{finished, reaches, decides, tickAfter, tickHands, recovered, restarted, stalls, resetAfter, hitAfter}
 use Rattle.network_demands.specs.Own.{played, handed, concerns, Fits}
@@ -44,8 +46,8 @@ either-way true x = refl
 either-way false x = refl
 
 -- ---- entries
-abbrev pub seen : Sight → Bool → List Record → Seen
-seen sight accepted records = record { sight = sight; accepted = accepted; records = records }
+abbrev pub seen : Sight → ℕ → List Record → Seen
+seen sight number records = record { sight = sight; number = number; records = records }
 
 -- the slot of a controller's answers
 abbrev pub seatOf : Network → ℕ → ℕ
@@ -88,24 +90,24 @@ pub record Plain (n : Network) (s : State) (sight : Sight) (accepted : Bool) (mo
 
 -- P entry record, for each effect
 pub record ByPart (n : Network) (s : State) (P : Seen → State → Type 0) : Type 0 where
-  pub plain : (sight : Sight) (accepted : Bool) (mode : Mode) (reported : Bool) → Plain n s sight accepted mode reported
-      → P (seen sight accepted []) (plainState s mode reported)
+  pub plain : (sight : Sight) (number : ℕ) (mode : Mode) (reported : Bool) → Plain n s sight (eqb 0 number) mode reported
+      → P (seen sight number []) (plainState s mode reported)
   pub hears : (c mode ok : ℕ) → member c (controllersOf n) ≡ true → ltb 1 ok ≡ false → takesReport s (Report.Controller mode) ≡ true
-      → P (seen (anAnswer c mode ok) true []) (heardState n s c ok)
-  pub recovers : isUp (s .step) ≡ true → P (seen aBusOff true (recovery (n .handle))) (recovered s)
-  pub restarts : isUp (s .step) ≡ false → asksToStart (asksFor (s .step)) ≡ true → P (seen aBusOff true []) (restarted s)
-  pub not-taken : isUp (s .step) ≡ false → asksToStart (asksFor (s .step)) ≡ false → P (seen aBusOff false []) s
-  pub resets : isFullStep (s .step) ≡ true → P (seen aStall true (reset (n .handle))) (resetAfter s)
-  pub ticks : P (seen aTick true (tickHands n s)) (tickAfter n s)
+      → P (seen (anAnswer c mode ok) 0 []) (heardState n s c ok)
+  pub recovers : isUp (s .step) ≡ true → P (seen aBusOff 0 (recovery (n .handle))) (recovered s)
+  pub restarts : isUp (s .step) ≡ false → asksToStart (asksFor (s .step)) ≡ true → P (seen aBusOff 0 []) (restarted s)
+  pub not-taken : isUp (s .step) ≡ false → asksToStart (asksFor (s .step)) ≡ false → P (seen aBusOff 0x22 []) s
+  pub resets : isFullStep (s .step) ≡ true → P (seen aStall 0 (reset (n .handle))) (resetAfter s)
+  pub ticks : P (seen aTick 0 (tickHands n s)) (tickAfter n s)
 
 module _ (n : Network) (s : State) (P : Seen → State → Type 0) (by : ByPart n s P) where
   -- what is seen is no tick, no bus-off, no accepted stall, no answer and no accepted request
-  quiet : (sight : Sight) (accepted reported : Bool) → isTick sight ≡ false → isBusOff sight ≡ false → isStall sight && accepted ≡ false
+  quiet : (sight : Sight) (number : ℕ) (reported : Bool) → isTick sight ≡ false → isBusOff sight ≡ false → isStall sight && eqb 0 number ≡ false
       → ((c mode value : ℕ) → isAnswerOn c mode value sight ≡ false)
-      → modeNumber (s .wanted) ≡ cond accepted (wantedBy sight (modeNumber (s .wanted)))
-      (modeNumber (s .wanted)) → reported ≡ s .reported || (takesSight s sight && accepted) →
-      (Kept n s → Kept n (plainState s (s .wanted) reported)) → P (seen sight accepted []) (plainState s (s .wanted) reported)
-  quiet sight accepted reported t b x a w r k = by .plain sight accepted (s .wanted) reported (record {
+      → modeNumber (s .wanted) ≡ cond (eqb 0 number) (wantedBy sight (modeNumber (s .wanted)))
+      (modeNumber (s .wanted)) → reported ≡ s .reported || (takesSight s sight && eqb 0 number) →
+      (Kept n s → Kept n (plainState s (s .wanted) reported)) → P (seen sight number []) (plainState s (s .wanted) reported)
+  quiet sight number reported t b x a w r k = by .plain sight number (s .wanted) reported (record {
     tick = t;
     bus-off = b;
     stall = x;
@@ -117,14 +119,14 @@ module _ (n : Network) (s : State) (P : Seen → State → Type 0) (by : ByPart 
   })
 
   -- an answer of a controller that is not taken, or of a controller of another network
-  unheard : (c mode ok : ℕ) (accepted : Bool) → (member c (controllersOf n) ≡ true → accepted ≡ false) → (member c (controllersOf n) ≡ true →
-      1 ≡ ok → takesReport s (Report.Controller mode) ≡ false) → P (seen (anAnswer c mode ok) accepted []) s
-  unheard c mode ok accepted z f = by .plain (anAnswer c mode ok) accepted (s .wanted) (s .reported) (record {
+  unheard : (c mode ok number : ℕ) → (member c (controllersOf n) ≡ true → eqb 0 number ≡ false) → (member c (controllersOf n) ≡ true →
+      1 ≡ ok → takesReport s (Report.Controller mode) ≡ false) → P (seen (anAnswer c mode ok) number []) s
+  unheard c mode ok number z f = by .plain (anAnswer c mode ok) number (s .wanted) (s .reported) (record {
     tick = refl;
     bus-off = refl;
     stall = refl;
     answer = λ c′ mode′ value m. refused c′ mode′ value m (isAnswerOn c′ mode′ value (anAnswer c mode ok)) refl;
-    wanted = either-way accepted (modeNumber (s .wanted));
+    wanted = either-way (eqb 0 number) (modeNumber (s .wanted));
     deaf = λ c′ mode′ m e.
         let p = and-both (eqb c′ c) _ e in
         let q = and-both (eqb (controllerNumber mode′) mode) _ (p .1) in
@@ -138,20 +140,24 @@ module _ (n : Network) (s : State) (P : Seen → State → Type 0) (by : ByPart 
       own c′ m e = ap (λ (x : ℕ). member x (controllersOf n)) (sym (eqb-true c′ c e)) ∙ m
 
       refused : (c′ mode′ value : ℕ) → member c′ (controllersOf n) ≡ true → (b : Bool)
-          → isAnswerOn c′ mode′ value (anAnswer c mode ok) ≡ b → b && accepted ≡ false
+          → isAnswerOn c′ mode′ value (anAnswer c mode ok) ≡ b → b && eqb 0 number ≡ false
       refused c′ mode′ value m false e = refl
       refused c′ mode′ value m true e = z (own c′ m (and-both (eqb c′ c) _ e .0))
 
   -- an answer that is taken, of a controller of the network or of another
   heard-by : (c mode ok : ℕ) → ltb 1 ok ≡ false → takesReport s (Report.Controller mode) ≡ true → (own : Bool) → member c (controllersOf n) ≡ own
-      → P (seen (anAnswer c mode ok) true []) (cond own (heardState n s c ok) s)
+      → P (seen (anAnswer c mode ok) 0 []) (cond own (heardState n s c ok) s)
   heard-by c mode ok l t true m = by .hears c mode ok m l t
-  heard-by c mode ok l t false m = unheard c mode ok true (λ e. absurd (true≢false (sym e ∙ m))) (λ e _. absurd (true≢false (sym e ∙ m)))
+  heard-by c mode ok l t false m = unheard c mode ok 0 (λ e. absurd (true≢false (sym e ∙ m))) (λ e _. absurd (true≢false (sym e ∙ m)))
 
   -- ---- by what is seen
   -- an entry whose answer is the one that is due
-  abbrev Due : Sight → Bool → Part → Type 0
-  Due sight accepted part = accepted ≡ isTaken (part .reply) → P (seen sight accepted []) (part .state)
+  abbrev Due : Sight → ℕ → Part → Type 0
+  Due sight number part = number ≡ replyNumber (part .reply) → P (seen sight number []) (part .state)
+
+  -- a refusal is not accepted
+  refuses : (refusal : Refusal) (number : ℕ) → number ≡ refusalNumber refusal → eqb 0 number ≡ false
+  refuses refusal number e = ap (eqb 0) e ∙ refusal-refuses refusal
 
   -- no step asks for a mode above 2
   above-not-taken : (mode : ℕ) → 2 < mode → takesReport s (Report.Controller mode) ≡ false
@@ -168,19 +174,21 @@ module _ (n : Network) (s : State) (P : Seen → State → Type 0) (by : ByPart 
       by-ask true Ask.ClearWake = refl
       by-ask true Ask.CheckWake = refl
 
-  answers : (c mode ok : ℕ) (accepted : Bool) → Due (anAnswer c mode ok) accepted (answerPart n s c mode ok)
+  answers : (c mode ok number : ℕ) → Due (anAnswer c mode ok) number (answerPart n s c mode ok)
   unfolding afterAnswer
-  answers c mode ok accepted =
-      by-answer s (Due (anAnswer c mode ok) accepted) n c mode ok (λ l t e. subst (λ (b : Bool). P (seen (anAnswer c mode ok) b []) (afterAnswer n s
-      c (eqb ok 1))) (sym e) (heard-by c mode ok l t (member c (controllersOf n)) refl)) (λ o e. unheard c mode ok accepted (λ _. e) (λ _ f. absurd
-      (omega (arith, ltb-true 1 ok o, f)))) (λ o e. unheard c mode ok accepted (λ _. e) (λ _ _. above-not-taken mode (ltb-true 2 mode o)))
-      (λ t e. unheard c mode ok accepted (λ _. e) (λ _ _. t))
+  answers c mode ok number =
+      by-answer s (Due (anAnswer c mode ok) number) n c mode ok
+      (λ l t e. subst (λ (k : ℕ). P (seen (anAnswer c mode ok) k []) (afterAnswer n s c (eqb ok 1))) (sym e)
+      (heard-by c mode ok l t (member c (controllersOf n)) refl))
+      (λ o e. unheard c mode ok number (λ _. refuses Refusal.OutOfRange number e) (λ _ f. absurd (omega (arith, ltb-true 1 ok o, f))))
+      (λ o e. unheard c mode ok number (λ _. refuses Refusal.OutOfRange number e) (λ _ _. above-not-taken mode (ltb-true 2 mode o)))
+      (λ t e. unheard c mode ok number (λ _. refuses Refusal.NotTaken number e) (λ _ _. t))
 
-  requests : (number : ℕ) (accepted : Bool) → Due (aRequest number) accepted (requestPart s number)
+  requests : (asked number : ℕ) → Due (aRequest asked) number (requestPart s asked)
   unfolding wants
-  requests number accepted = by-request s (Due (aRequest number) accepted) number
-      (λ mode same may e. subst (λ (b : Bool). P (seen (aRequest number) b []) (wants s mode)) (sym e)
-      (by .plain (aRequest number) true mode (s .reported) (record {
+  requests asked number = by-request s (Due (aRequest asked) number) asked
+      (λ mode same may e. subst (λ (k : ℕ). P (seen (aRequest asked) k []) (wants s mode)) (sym e)
+      (by .plain (aRequest asked) 0 mode (s .reported) (record {
         tick = refl;
         bus-off = refl;
         stall = refl;
@@ -190,62 +198,61 @@ module _ (n : Network) (s : State) (P : Seen → State → Type 0) (by : ByPart 
         reports = sym (or-false (s .reported));
         kept = want-kept n s mode may;
       })))
-      unchanged unchanged
+      (unchanged Refusal.Asleep) (unchanged Refusal.ComingUp) (unchanged Refusal.GoingDown) (unchanged Refusal.OutOfRange)
     where
-      unchanged : accepted ≡ false → P (seen (aRequest number) accepted []) s
-      unchanged e =
-          quiet (aRequest number) accepted
-          (s .reported) refl refl refl (λ c mode value. refl) (ap (λ (b : Bool). cond b number (modeNumber (s .wanted))) (sym e))
-          (sym (or-false (s .reported))) (λ k. k)
+      unchanged : (refusal : Refusal) → number ≡ refusalNumber refusal → P (seen (aRequest asked) number []) s
+      unchanged refusal e =
+          quiet (aRequest asked) number (s .reported) refl refl refl (λ c mode value. refl)
+          (ap (λ (b : Bool). cond b asked (modeNumber (s .wanted))) (sym (refuses refusal number e))) (sym (or-false (s .reported))) (λ k. k)
 
-  reports : (report : Report) (accepted : Bool) → Due (aReport report) accepted (reportPart s report)
+  reports : (report : Report) (number : ℕ) → Due (aReport report) number (reportPart s report)
   unfolding reportPart afterReport
-  reports report accepted = by-report s (Due (aReport report) accepted) report _
-      (λ t e. quiet (aReport report) accepted true refl refl refl (λ c mode value. refl) (either-way accepted (modeNumber (s .wanted)))
+  reports report number = by-report s (Due (aReport report) number) report _
+      (λ t e. quiet (aReport report) number true refl refl refl (λ c mode value. refl) (either-way (eqb 0 number) (modeNumber (s .wanted)))
       (rw (t, e) (sym (or-true (s .reported)))) (report-kept n s report t))
-      (λ _. unchanged) (λ _. unchanged)
+      (λ _. unchanged Refusal.OutOfRange) (λ _. unchanged Refusal.NotTaken)
     where
-      unchanged : accepted ≡ false → P (seen (aReport report) accepted []) s
-      unchanged e =
-          quiet (aReport report) accepted (s .reported) refl refl refl (λ c mode value. refl) (either-way accepted (modeNumber (s .wanted)))
-          (rw (e, and-false (takesReport s report)) (sym (or-false (s .reported)))) (λ k. k)
+      unchanged : (refusal : Refusal) → number ≡ refusalNumber refusal → P (seen (aReport report) number []) s
+      unchanged refusal e =
+          quiet (aReport report) number (s .reported) refl refl refl (λ c mode value. refl) (either-way (eqb 0 number) (modeNumber (s .wanted)))
+          (rw (refuses refusal number e, and-false (takesReport s report)) (sym (or-false (s .reported)))) (λ k. k)
 
-  bus-offs : (accepted : Bool) → accepted ≡ isTaken (hitReply (hitOf (s .step)))
-      → P (seen aBusOff accepted (hitRecords n (hitOf (s .step)))) (hitAfter s (hitOf (s .step)))
+  bus-offs : (number : ℕ) → number ≡ replyNumber (hitReply (hitOf (s .step)))
+      → P (seen aBusOff number (hitRecords n (hitOf (s .step)))) (hitAfter s (hitOf (s .step)))
   unfolding hitRecords
-  bus-offs accepted = by-hit s (λ hit. accepted ≡ isTaken (hitReply hit) → P (seen aBusOff accepted (hitRecords n hit)) (hitAfter s hit))
-      (λ u e. subst (λ (b : Bool). P (seen aBusOff b (recovery (n .handle))) (recovered s)) (sym e) (by .recovers u))
-      (λ u a e. subst (λ (b : Bool). P (seen aBusOff b []) (restarted s)) (sym e) (by .restarts u a))
-      (λ u a e. subst (λ (b : Bool). P (seen aBusOff b []) s) (sym e) (by .not-taken u a))
+  bus-offs number = by-hit s (λ hit. number ≡ replyNumber (hitReply hit) → P (seen aBusOff number (hitRecords n hit)) (hitAfter s hit))
+      (λ u e. subst (λ (k : ℕ). P (seen aBusOff k (recovery (n .handle))) (recovered s)) (sym e) (by .recovers u))
+      (λ u a e. subst (λ (k : ℕ). P (seen aBusOff k []) (restarted s)) (sym e) (by .restarts u a))
+      (λ u a e. subst (λ (k : ℕ). P (seen aBusOff k []) s) (sym e) (by .not-taken u a))
 
-  stalling : (accepted : Bool) → accepted ≡ isTaken (hitReply (stalls (s .step)))
-      → P (seen aStall accepted (hitRecords n (stalls (s .step)))) (hitAfter s (stalls (s .step)))
+  stalling : (number : ℕ) → number ≡ replyNumber (hitReply (stalls (s .step)))
+      → P (seen aStall number (hitRecords n (stalls (s .step)))) (hitAfter s (stalls (s .step)))
   unfolding hitRecords
-  stalling accepted =
-      let Q : Hit → Type 0 = λ hit. accepted ≡ isTaken (hitReply hit) → P (seen aStall accepted (hitRecords n hit)) (hitAfter s hit) in
+  stalling number =
+      let Q : Hit → Type 0 = λ hit. number ≡ replyNumber (hitReply hit) → P (seen aStall number (hitRecords n hit)) (hitAfter s hit) in
       subst Q (sym (stalls-just (s .step))) (split Q (isFullStep (s .step))
-      (λ f e. subst (λ (b : Bool). P (seen aStall b (reset (n .handle))) (resetAfter s)) (sym e) (by .resets f))
-      (λ f e. quiet aStall accepted (s .reported) refl refl e (λ c mode value. refl) (either-way accepted (modeNumber (s .wanted)))
-      (sym (or-false (s .reported))) (λ k. k)))
+      (λ f e. subst (λ (k : ℕ). P (seen aStall k (reset (n .handle))) (resetAfter s)) (sym e) (by .resets f))
+      (λ f e. quiet aStall number (s .reported) refl refl (refuses Refusal.NotTaken number e) (λ c mode value. refl)
+      (either-way (eqb 0 number) (modeNumber (s .wanted))) (sym (or-false (s .reported))) (λ k. k)))
 
-  by-sight : (sight : Sight) (accepted : Bool) → (concerns sight ≡ true → accepted ≡ isTaken (played n s sight .reply))
-      → P (seen sight accepted (handed n s sight)) (played n s sight .state)
+  by-sight : (sight : Sight) (number : ℕ) → (concerns sight ≡ true → number ≡ replyNumber (played n s sight .reply))
+      → P (seen sight number (handed n s sight)) (played n s sight .state)
   unfolding played handed
-  by-sight aTick accepted f = subst (λ (b : Bool). P (seen aTick b (tickHands n s)) (tickAfter n s)) (sym (f refl)) (by .ticks)
-  by-sight aBusOff accepted f = bus-offs accepted (f refl)
-  by-sight aStall accepted f = stalling accepted (f refl)
-  by-sight (anAnswer c mode ok) accepted f = answers c mode ok accepted (f refl)
-  by-sight (aRequest mode) accepted f = requests mode accepted (f refl)
-  by-sight (aReport report) accepted f = reports report accepted (f refl)
-  by-sight nothing accepted f =
-      quiet nothing accepted (s .reported) refl refl refl (λ c mode value. refl) (either-way accepted (modeNumber (s .wanted)))
+  by-sight aTick number f = subst (λ (k : ℕ). P (seen aTick k (tickHands n s)) (tickAfter n s)) (sym (f refl)) (by .ticks)
+  by-sight aBusOff number f = bus-offs number (f refl)
+  by-sight aStall number f = stalling number (f refl)
+  by-sight (anAnswer c mode ok) number f = answers c mode ok number (f refl)
+  by-sight (aRequest mode) number f = requests mode number (f refl)
+  by-sight (aReport report) number f = reports report number (f refl)
+  by-sight nothing number f =
+      quiet nothing number (s .reported) refl refl refl (λ c mode value. refl) (either-way (eqb 0 number) (modeNumber (s .wanted)))
       (sym (or-false (s .reported))) (λ k. k)
 
   -- whatever holds of each effect holds of every entry that fits
   pub by-part : (e : Seen) → Fits n s e → P e (played n s (e .sight) .state)
   by-part e f =
       subst (λ (x : Seen). P x (played n s (e .sight) .state))
-      (λ i. record { sight = e .sight; accepted = e .accepted; records = sym (f .records) i }) (by-sight (e .sight) (e .accepted) (f .accepted))
+      (λ i. record { sight = e .sight; number = e .number; records = sym (f .records) i }) (by-sight (e .sight) (e .number) (f .number))
 
 -- whatever holds of each kind of move holds of the one that a tick decides
 pub by-tick : (n : Network) (s : State) (P : Step → Mode → Move → Type 0) → ByMove (finished n s) P → P (s .step) (s .wanted) (decides n s)
@@ -318,7 +325,7 @@ restarted-kept n s a k =
 pub part-kept : (n : Network) (s : State) → InRange n → Kept n s → (e : Seen) → Fits n s e → Kept n (played n s (e .sight) .state)
 unfolding afterAnswer
 part-kept n s g k = by-part n s (λ e t. Kept n t) (record {
-  plain = λ sight accepted mode reported p. p .kept k;
+  plain = λ sight number mode reported p. p .kept k;
   hears = λ c mode ok m l e. rw m at (answer-kept n s c mode (eqb ok 1) g e k);
   recovers = λ u. recovered-kept n s k;
   restarts = λ u a. restarted-kept n s a k;

@@ -70,7 +70,7 @@ module _ (n : Network) (g : InRange n) (h : OwnHistory) (r : Ran n h) where
   m = decides n s
 
   abbrev e : Seen
-  e = seen aTick true (tickHands n s)
+  e = seen aTick 0 (tickHands n s)
 
   waits : Waits (n .partial) (s .step) (s .wanted) m
   waits = by-tick-arrow n s (Waits (n .partial)) (record {

@@ -293,7 +293,7 @@ taken-means s mode t = by-test (s .asked) (asksFor (s .step)) t
 module _ (n : Network) (g : InRange n) (s : State) (k : Kept n s) (c mode ok : ℕ) (m : member c (controllersOf n) ≡ true) (l : ltb 1 ok ≡ false)
     (q : OwnHistory) where
   abbrev answering : Seen
-  answering = seen (anAnswer c mode ok) true []
+  answering = seen (anAnswer c mode ok) 0 []
 
   -- an answer on another mode changes nothing
   other-mode : eqb 1 mode ≡ false → (d : ℕ) → runs d (answering ∷ q) ≡ runs d q
@@ -302,7 +302,7 @@ module _ (n : Network) (g : InRange n) (s : State) (k : Kept n s) (c mode ok : �
 
   -- an answer to the request to start says whether its controller runs, and nothing of the others
   own-answer : (value : ℕ) → ltb 1 value ≡ false → eqb 1 mode ≡ true → askedToStart c q ≡ true
-      → runs c (seen (anAnswer c mode value) true [] ∷ q) ≡ isOkay (heard (answerOf (eqb value 1)))
+      → runs c (seen (anAnswer c mode value) 0 [] ∷ q) ≡ isOkay (heard (answerOf (eqb value 1)))
   unfolding runs
   own-answer zero v e a = rw (eqb-same c, e) refl
   own-answer (suc zero) v e a = rw (eqb-same c, e) a

@@ -18,7 +18,8 @@ use Rattle.network.specs.State.{heardOf, started}
 use Rattle.network.specs.Rules.{isRefusal, isDone, delayOf, reachedBy, outfitOf}
 use Rattle.network.specs.Moving.{afterMove}
 use Rattle.network.specs.BusOff.{hitOf, stallOf, afterHit, hitRecords}
-use Rattle.network.specs.Parts.{Sight, aTick, aBusOff, aStall, anAnswer, aRequest, aReport, nothing, isTaken, taken, hitReply, requestPart}
+use Rattle.network.specs.Replies.{replyNumber}
+use Rattle.network.specs.Parts.{Sight, aTick, aBusOff, aStall, anAnswer, aRequest, aReport, nothing, taken, hitReply, requestPart}
 use Rattle.network.specs.Parts.{reportPart, answerPart}
 use Rattle.network_demands.specs.Words.{Seen, OwnHistory}
 
@@ -109,7 +110,7 @@ concerns nothing = false
 
 -- each answer and each record is the one that the network's rules give
 pub record Fits (n : Network) (s : State) (e : Seen) : Type 0 where
-  pub accepted : concerns (e .sight) ≡ true → e .accepted ≡ isTaken (played n s (e .sight) .reply)
+  pub number : concerns (e .sight) ≡ true → e .number ≡ replyNumber (played n s (e .sight) .reply)
   pub records : e .records ≡ handed n s (e .sight)
 
 -- every entry of a history fits, each on the record that the entries before it left

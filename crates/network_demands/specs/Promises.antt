@@ -15,7 +15,8 @@ use Rattle.settings.specs.declared.Network.{Network}
 use Rattle.settings.specs.Settings.{controllersOf, member}
 use Rattle.network.specs.declared.Report.{Report}
 use Rattle.network.specs.Parts.{Sight, aTick, aBusOff, aStall, anAnswer, aRequest, aReport, nothing}
-use Rattle.network_demands.specs.Words.{Seen, OwnHistory, hands, since, tally, ticked, fell, shut, cleared, told, wanted, up, rested, on}
+use Rattle.network_demands.specs.Words.{Seen, OwnHistory, accepted, hands, since, tally, ticked, fell, shut, cleared, told, wanted, up}
+use Rattle.network_demands.specs.Words.{rested, on}
 use Rattle.network_demands.specs.Words.{isStall, isAnswerOn, setback, awaited, fellUp, owed, afterStall, askedToStart, firstRunning}
 
 -- ---- bus-offs
@@ -28,14 +29,14 @@ fallRecords n = handed 8 (n .handle) 1 ∷ handed 6 (n .handle) 1 ∷ handed 7 (
 -- shutdown
 pub record BusOffs (n : Network) (e : Seen) (h : OwnHistory) : Type 0 where
   pub records : fell e ≡ true → e .records ≡ cond (up n h) (fallRecords n) []
-  pub accepted : fell e ≡ true → (c : ℕ) → member c (controllersOf n) ≡ true → e .accepted ≡ askedToStart c (since (shut n) h)
+  pub accepted : fell e ≡ true → (c : ℕ) → member c (controllersOf n) ≡ true → accepted e ≡ askedToStart c (since (shut n) h)
 
 -- ---- stalls
 
 -- X2, X5: a stall is taken exactly if full is told, and hands out 6 silent then and else nothing
 pub record Stalls (n : Network) (e : Seen) (h : OwnHistory) : Type 0 where
   pub records : e .sight ≡ aStall → e .records ≡ cond (eqb 2 (told n h)) (handed 6 (n .handle) 1 ∷ []) []
-  pub accepted : e .sight ≡ aStall → e .accepted ≡ eqb 2 (told n h)
+  pub accepted : e .sight ≡ aStall → accepted e ≡ eqb 2 (told n h)
 
 -- ---- answers and reports
 
@@ -43,17 +44,25 @@ pub record Stalls (n : Network) (e : Seen) (h : OwnHistory) : Type 0 where
 -- and no stall was accepted since
 pub record Answers (n : Network) (e : Seen) (h : OwnHistory) : Type 0 where
   pub controllers : (c mode ok : ℕ) → e .sight ≡ anAnswer c mode ok → member c (controllersOf n) ≡ true
-      → e .accepted ≡ leb mode 2 && (leb ok 1 && awaited 1 c mode h)
+      → accepted e ≡ leb mode 2 && (leb ok 1 && awaited 1 c mode h)
   pub transceivers : (t mode : ℕ) → e .sight ≡ aReport (Report.Transceiver mode) → n .transceiver ≡ Transceiver.Present t
-      → e .accepted ≡ leb mode 2 && awaited 2 t mode h
-  pub clears : (t : ℕ) → e .sight ≡ aReport Report.Cleared → n .transceiver ≡ Transceiver.Present t → e .accepted ≡ awaited 4 t 0 h
-  pub checks : (t : ℕ) → e .sight ≡ aReport Report.Checked → n .transceiver ≡ Transceiver.Present t → e .accepted ≡ awaited 5 t 0 h
+      → accepted e ≡ leb mode 2 && awaited 2 t mode h
+  pub clears : (t : ℕ) → e .sight ≡ aReport Report.Cleared → n .transceiver ≡ Transceiver.Present t → accepted e ≡ awaited 4 t 0 h
+  pub checks : (t : ℕ) → e .sight ≡ aReport Report.Checked → n .transceiver ≡ Transceiver.Present t → accepted e ≡ awaited 5 t 0 h
 
 -- ---- requests
 
--- N15, R13, R14: a request is taken exactly if its mode is in range, and silent only while up
+-- N15: a request is taken exactly if its mode is in range, and silent only while up; and exactly when each of its refusals is given
 pub record Requests (n : Network) (e : Seen) (h : OwnHistory) : Type 0 where
-  pub accepted : (mode : ℕ) → e .sight ≡ aRequest mode → e .accepted ≡ leb mode 2 && (not (eqb 1 mode) || up n h)
+  pub accepted : (mode : ℕ) → e .sight ≡ aRequest mode → accepted e ≡ leb mode 2 && (not (eqb 1 mode) || up n h)
+  -- R13: 21, for a mode that is none of the three
+  pub out-of-range : (mode : ℕ) → e .sight ≡ aRequest mode → eqb 0x21 (e .number) ≡ ltb 2 mode
+  -- R14: 08, for silent asked for of a network that came to rest and was not called up since
+  pub asleep : (mode : ℕ) → e .sight ≡ aRequest mode → eqb 0x08 (e .number) ≡ eqb 1 mode && (rested n h && not (on n h))
+  -- R22: 24, of one that is on and has not told full since its last shutdown
+  pub coming-up : (mode : ℕ) → e .sight ≡ aRequest mode → eqb 0x24 (e .number) ≡ eqb 1 mode && (on n h && not (up n h))
+  -- R23: 25, of one that did not come to rest since its last shutdown, or since the start
+  pub going-down : (mode : ℕ) → e .sight ≡ aRequest mode → eqb 0x25 (e .number) ≡ eqb 1 mode && not (rested n h)
 
 -- ---- ticks
 
@@ -65,8 +74,8 @@ handsKind kind e = any (λ (r : Record). eqb kind (r .kind)) (e .records)
 unfoldable pub saidOk : ℕ → ℕ → OwnHistory → Bool
 saidOk c mode [] = false
 saidOk c mode (e ∷ h) =
-    cond (isAnswerOn c mode 1 (e .sight) && e .accepted) true
-    (cond (isAnswerOn c mode 0 (e .sight) && e .accepted) false (saidOk c mode h))
+    cond (isAnswerOn c mode 1 (e .sight) && accepted e) true
+    (cond (isAnswerOn c mode 0 (e .sight) && accepted e) false (saidOk c mode h))
 
 -- a report that the transceiver is normal
 abbrev pub isNormal : Report → Bool
@@ -87,7 +96,7 @@ saysNormal nothing = false
 
 -- an accepted report that the transceiver is normal
 abbrev pub reportedNormal : Seen → Bool
-reportedNormal e = saysNormal (e .sight) && e .accepted
+reportedNormal e = saysNormal (e .sight) && accepted e
 
 -- what follows the entry by which no was last told
 abbrev pub sinceRest : Network → OwnHistory → OwnHistory

@@ -13,15 +13,19 @@ use Rattle.network.specs.Parts.{Sight, aTick, aBusOff, aStall, anAnswer, aReque
 
 -- ---- histories of one network
 
--- what a call was to the network, whether it was accepted, and the records handed out that name its ids
+-- what a call was to the network, the number of its answer, and the records handed out that name its ids
 pub record Seen : Type 0 where
   pub sight : Sight
-  pub accepted : Bool
+  pub number : ℕ
   pub records : List Record
 
 -- a history has the latest call first
 abbrev pub OwnHistory : Type 0
 OwnHistory = List Seen
+
+-- R1: it was accepted
+abbrev pub accepted : Seen → Bool
+accepted e = eqb 0 (e .number)
 
 -- ---- records
 
@@ -117,7 +121,7 @@ fell e = isBusOff (e .sight)
 
 -- a stall of the network that was accepted
 abbrev pub stalled : Seen → Bool
-stalled e = isStall (e .sight) && e .accepted
+stalled e = isStall (e .sight) && accepted e
 
 -- T26: a shutdown begins, which 7 no says
 abbrev pub shut : Network → Seen → Bool
@@ -148,7 +152,7 @@ told n (e ∷ h) = toldBy n (e .records) (told n h)
 -- N8: no is wanted, which is 0, until a request is accepted
 unfoldable pub wanted : OwnHistory → ℕ
 wanted [] = 0
-wanted (e ∷ h) = cond (e .accepted) (wantedBy (e .sight) (wanted h)) (wanted h)
+wanted (e ∷ h) = cond (accepted e) (wantedBy (e .sight) (wanted h)) (wanted h)
 
 -- ---- where the network stands, by what it told and was told
 
@@ -173,7 +177,7 @@ on n h = rested n h && calledUp n h
 unfoldable pub awaited : ℕ → ℕ → ℕ → OwnHistory → Bool
 awaited kind target argument [] = false
 awaited kind target argument (e ∷ h) =
-    cond (ticked e) (hands kind target argument e) (cond ((fell e && e .accepted) || stalled e) false (awaited kind target argument h))
+    cond (ticked e) (hands kind target argument e) (cond ((fell e && accepted e) || stalled e) false (awaited kind target argument h))
 
 -- the mode that was wanted at the last tick; no where there was none
 unfoldable pub wantedAtTick : OwnHistory → ℕ
@@ -217,8 +221,8 @@ askedToStart c h = any (hands 1 c 1) h
 unfoldable pub runs : ℕ → OwnHistory → Bool
 runs c [] = false
 runs c (e ∷ h) =
-    cond (isAnswer c 1 (e .sight) && e .accepted) (askedToStart c h)
-    (cond (isAnswer c 0 (e .sight) && e .accepted) false (runs c h))
+    cond (isAnswer c 1 (e .sight) && accepted e) (askedToStart c h)
+    (cond (isAnswer c 0 (e .sight) && accepted e) false (runs c h))
 
 -- every controller of the network runs
 abbrev pub allRun : Network → OwnHistory → Bool
@@ -283,7 +287,7 @@ promptly mode n (e ∷ h) = cond (ticked e) (not (any (λ (c : ℕ). waiting mod
 
 -- a controller of the network answers the request for the mode with not ok
 abbrev pub saysNo : ℕ → Network → Seen → Bool
-saysNo mode n e = any (λ (c : ℕ). isAnswerOn c mode 0 (e .sight) && e .accepted) (controllersOf n)
+saysNo mode n e = any (λ (c : ℕ). isAnswerOn c mode 0 (e .sight) && accepted e) (controllersOf n)
 
 -- the good conditions: s follows the bus-off at the head of h; every request to start is answered promptly, and only with ok
 pub record GoodConditions (n : Network) (s h : OwnHistory) : Type 0 where

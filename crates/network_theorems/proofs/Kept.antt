@@ -22,7 +22,7 @@ use Rattle.network.specs.declared.Heard.{Heard}
 use Rattle.network.specs.declared.Hit.{Hit}
 use Rattle.network.specs.declared.Report.{Report}
 use Rattle.network.specs.declared.State.{State}
-use Rattle.network.specs.State.{heard, blankAnswers, heardOf, started, wants, mayWant}
+use Rattle.network.specs.State.{heard, blankAnswers, heardOf, started, wants}
 use Rattle.network.specs.Rules.{moveOf}
 use Rattle.network.specs.Moving.{lowered, toldAfter, asksAfter, keepsAnswers, afterMove, tickState}
 use Rattle.network.specs.BusOff.{madeAnew, afterHit}
@@ -157,11 +157,11 @@ pub tick-kept : (n : Network) (s : State) → Kept n s → Kept n (tickState n s
 unfolding tickState moveOf
 tick-kept n s k = move-kept n s _ _ _ _ k
 
-pub want-kept : (n : Network) (s : State) (mode : Mode) → mayWant (s .step) mode ≡ true → Kept n s → Kept n (wants s mode)
+pub want-kept : (n : Network) (s : State) (mode : Mode) → (mode ≡ Mode.Silent → isUp (s .step) ≡ true) → Kept n s → Kept n (wants s mode)
 unfolding wants
-want-kept n s mode e k = record {
+want-kept n s mode may k = record {
   told = k .told;
-  wanted = λ f. sym (ap (mayWant (s .step)) f) ∙ e;
+  wanted = may;
   asked = k .asked;
   answers = k .answers;
   reported = k .reported;

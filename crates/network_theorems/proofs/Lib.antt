@@ -2,3 +2,4 @@ pub mod Moves
 pub mod Kept
 pub mod Theorems
 pub mod Parts
+pub mod Requests

@@ -1,5 +1,5 @@
 -- The calls of the manager, and the outcome of each, complete: answer, next manager, count, polled mode, place, the records handed out, and where a
--- buffer is lent every byte of it. Of the refusals that apply the highest in the table of docs/RULES.md is given (R6). The rules R2 to R21, H2 to H4,
+-- buffer is lent every byte of it. Of the refusals that apply the highest in the table of docs/RULES.md is given (R6). The rules R2 to R23, H2 to H4,
 -- N6 to N9, N16, T1, B1, X1 and A1 to A5.
 use Prim.Native.Nat.{ℕ, _*_}
 use mathlib.Core.Path.{_≡_}
@@ -27,7 +27,8 @@ use Rattle.network.specs.declared.State.{State}
 use Rattle.network.specs.declared.Trouble.{Trouble}
 use Rattle.network.specs.State.{started}
 use Rattle.network.specs.Moving.{tickState}
-use Rattle.network.specs.Parts.{Sight, aBusOff, aStall, anAnswer, aRequest, aReport, isTaken, partOf, recordsOf}
+use Rattle.network.specs.Replies.{isTaken}
+use Rattle.network.specs.Parts.{Sight, aBusOff, aStall, anAnswer, aRequest, aReport, partOf, recordsOf}
 use Rattle.slots.specs.declared.Stage.{Stage}
 use Rattle.slots.specs.declared.Answer.{Answer}
 use Rattle.slots.specs.declared.Gate.{Gate}
@@ -116,12 +117,10 @@ abbrev pub bySlot : Manager → Slot → (ℕ → Outcome) → Outcome
 bySlot m (Slot.Refused refusal) found = refused m refusal
 bySlot m (Slot.At i) found = found i
 
--- R13 to R15: the manager's answer for a network's reply
+-- the manager's answer for a network's reply
 abbrev pub answerOf : Reply → Answer
 answerOf Reply.Taken = Answer.Accepted
-answerOf Reply.OutOfRange = Answer.OutOfRange
-answerOf Reply.NotUp = Answer.NotUp
-answerOf Reply.NotTaken = Answer.NotTaken
+answerOf (Reply.Refused refusal) = Answer.Network refusal
 
 -- R2, N16: a network's part lifted to its slot: what is taken stores its record there and nowhere else, and a refusal changes nothing
 unfoldable pub settled : Manager → ℕ → Reply → State → ℕ → Outcome
@@ -191,7 +190,7 @@ outcome m (read bytes) = byStage (m .stage) (readInto m bytes) (readInto m bytes
 outcome m (write room) = byStage (m .stage) (refused m Answer.NotReady) (writingOf m room) (writingOf m room)
 -- R7, R8: 01 without a sheet, 0B on a manager that runs
 outcome m start = byStage (m .stage) (refused m Answer.NotReady) (accepted (startedFrom m) 0) (refused m Answer.Running)
--- R7, R10, R13, R14: 01, 03, 21, 08
+-- R7, R10, R13, R14, R22, R23: 01, 03, 21, and of silent 08, 24 or 25
 outcome m (request handle mode) = named m (Id.OfNetwork handle) (aRequest mode)
 -- R7, R10, N6: 01, 03, else the mode that was last told
 outcome m (poll handle) = bySlot m (slotOf m (Id.OfNetwork handle)) (λ i. polled m (stateAt m i .told))

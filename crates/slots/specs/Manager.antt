@@ -1,4 +1,4 @@
--- The manager, its answers with their numbers, and what all calls share. The rules R1 to R4, R7 to R16, H2 and T1 of docs/RULES.md.
+-- The manager, its answers with their numbers, and what all calls share. The rules R1 to R4, R7 to R12, R16, H2 and T1 of docs/RULES.md.
 use Prim.Native.Nat.{ℕ, _+_, _*_, max}
 use mathlib.Core.List.{List, [], _∷_, _++_}
 use mathlib.Core.Bool.{Bool, false}
@@ -12,13 +12,14 @@ use Rattle.entries.specs.Entries.{faultNumber}
 use Rattle.steps.specs.declared.Step.{Step}
 use Rattle.network.specs.declared.State.{State}
 use Rattle.network.specs.State.{blankAnswers}
+use Rattle.network.specs.Replies.{refusalNumber}
 use Rattle.network.specs.Moving.{tickRecords}
 use Rattle.slots.specs.declared.Stage.{Stage}
 use Rattle.slots.specs.declared.Answer.{Answer}
 use Rattle.slots.specs.declared.Manager.{Manager}
 use Rattle.slots.specs.declared.Outcome.{Outcome}
 
--- R1, R7 to R15, K6: the number of each answer, 0 for accepted; the sheet has its own from 30 to 38
+-- R1, R7 to R12, K6: the number of each answer, 0 for accepted; a network has its own refusals, and the sheet has those from 30 to 38
 abbrev pub answerNumber : Answer → ℕ
 answerNumber Answer.Accepted = 0x00
 answerNumber Answer.NotReady = 0x01
@@ -27,9 +28,7 @@ answerNumber Answer.TooShort = 0x20
 answerNumber Answer.NoHandle = 0x03
 answerNumber Answer.NoController = 0x04
 answerNumber Answer.NoTransceiver = 0x05
-answerNumber Answer.OutOfRange = 0x21
-answerNumber Answer.NotUp = 0x08
-answerNumber Answer.NotTaken = 0x22
+answerNumber (Answer.Network refusal) = refusalNumber refusal
 answerNumber (Answer.Sheet fault) = faultNumber fault
 
 -- the networks in use, in the order of the sheet

@@ -8,6 +8,7 @@ ghost use mathlib.Core.Path.{_≡_};
 ghost use Rattle.slots.specs.Manager.{answerNumber, blankState, refused, accepted, networkAt, stateAt, withState};
 use entries::Fault;
 pub use finding::slot_of;
+use network::Refusal;
 use network::State;
 use records::Mode;
 use records::Record;
@@ -58,12 +59,8 @@ pub enum Answer {
     NoHandle,
     NoController,
     NoTransceiver,
-    // R13: 21, a mode above 2 or an ok value above 1.
-    OutOfRange,
-    // R14: 08, silent was asked for and the network is not up.
-    NotUp,
-    // R15: 22, the step does not take this answer, report or bus-off.
-    NotTaken,
+    // 21, 08, 24, 25, 22: the refusals of the network that the call names.
+    Network(Refusal),
     // 30 to 38, by the bytes of a sheet: the reader's own refusals.
     Sheet(Fault),
 }
@@ -71,7 +68,7 @@ pub enum Answer {
 impl Answer {
     pub const ACCEPTED: u8 = 0x00;
 
-    // R1, R7 to R15, K6: the number of this answer.
+    // R1, R7 to R12, K6: the number of this answer.
     pub fn number(self) -> u8
         ensures { λ r. ⌜ r ≡ answerNumber self ⌝ }
     {
@@ -83,9 +80,7 @@ impl Answer {
             Answer::NoHandle => 0x03,
             Answer::NoController => 0x04,
             Answer::NoTransceiver => 0x05,
-            Answer::OutOfRange => 0x21,
-            Answer::NotUp => 0x08,
-            Answer::NotTaken => 0x22,
+            Answer::Network(refusal) => refusal.number(),
             Answer::Sheet(fault) => fault.number(),
         }
     }

@@ -21,8 +21,6 @@ pub fn settle(manager: Manager, at: usize, part: Part, count: usize) -> Outcome
             mode: 0,
             place: 0,
         },
-        Reply::OutOfRange => Outcome::refuse(manager, Answer::OutOfRange),
-        Reply::NotUp => Outcome::refuse(manager, Answer::NotUp),
-        Reply::NotTaken => Outcome::refuse(manager, Answer::NotTaken),
+        Reply::Refused(refusal) => Outcome::refuse(manager, Answer::Network(refusal)),
     }
 }

@@ -5,8 +5,10 @@ use Rattle.lists.specs.Lists.{any}
 use Rattle.lists.proofs.Tests.{split}
 use Rattle.settings.specs.declared.Id.{Id}
 use Rattle.settings.specs.Settings.{member}
+use Rattle.network.specs.declared.Refusal.{Refusal}
 use Rattle.network.specs.declared.Reply.{Reply}
-use Rattle.network.specs.Parts.{Sight, aBusOff, aStall, isTaken, partOf}
+use Rattle.network.specs.Replies.{refusalNumber, isTaken}
+use Rattle.network.specs.Parts.{Sight, aBusOff, aStall, partOf}
 use Rattle.slots.specs.declared.Stage.{Stage}
 use Rattle.slots.specs.declared.Answer.{Answer}
 use Rattle.slots.specs.declared.Gate.{Gate}
@@ -30,11 +32,16 @@ abbrev NotShort : Outcome → Type 0
 NotShort o = answerNumber (o .answer) ≡ 0x20 → ⊥
 
 -- ---- a bus-off and a stall
+refusal-not-short : (refusal : Refusal) → refusalNumber refusal ≡ 0x20 → ⊥
+refusal-not-short Refusal.OutOfRange e = omega arith
+refusal-not-short Refusal.Asleep e = omega arith
+refusal-not-short Refusal.ComingUp e = omega arith
+refusal-not-short Refusal.GoingDown e = omega arith
+refusal-not-short Refusal.NotTaken e = omega arith
+
 reply-not-short : (reply : Reply) → answerNumber (answerOf reply) ≡ 0x20 → ⊥
 reply-not-short Reply.Taken e = omega arith
-reply-not-short Reply.OutOfRange e = omega arith
-reply-not-short Reply.NotUp e = omega arith
-reply-not-short Reply.NotTaken e = omega arith
+reply-not-short (Reply.Refused refusal) e = refusal-not-short refusal e
 
 unknown-not-short : (id : Id) → answerNumber (unknown id) ≡ 0x20 → ⊥
 unknown-not-short (Id.OfNetwork handle) e = omega arith

@@ -2,7 +2,7 @@
 use Rattle.lists.proofs.Basics.{ℕ, _≡_, needs, sym, ap, _∙_}
 use Rattle.records.specs.declared.NamedMode.{NamedMode}
 use Rattle.records.specs.Records.{modeNamed, byNamed}
-use Rattle.network.specs.declared.Reply.{Reply}
+use Rattle.network.specs.declared.Refusal.{Refusal}
 use Rattle.network.specs.declared.State.{State}
 use Rattle.network.specs.Parts.{declined, wantedPart, requestPart}
 use Rattle.network.proofs.parts.request_part.Statement.{statement}
@@ -10,9 +10,9 @@ use Rattle.network.proofs.parts.request_part.Tie as tie
 
 -- the part goes by what the number names
 by-name : (s : State) (mode : ℕ) (named : NamedMode) → named ≡ modeNamed mode →
-    byNamed named (wantedPart s) (declined s Reply.OutOfRange) ≡ requestPart s mode
+    byNamed named (wantedPart s) (declined s Refusal.OutOfRange) ≡ requestPart s mode
 unfolding requestPart
-by-name s mode named e = ap (λ (x : NamedMode). byNamed x (wantedPart s) (declined s Reply.OutOfRange)) e
+by-name s mode named e = ap (λ (x : NamedMode). byNamed x (wantedPart s) (declined s Refusal.OutOfRange)) e
 
 returns : tie.Need-returns
 returns c =

@@ -6,8 +6,16 @@ use Rattle.network.proofs.parts.want_mode.Tie as tie
 
 returns : tie.Need-returns
 unfolding wantedPart
-returns c = simp (sym (c .before .before .before .may-want .ensures) ∙ c .before .before .if1 .taken, c .before .want .ensures, c .take .ensures)
+returns c =
+    let told = c .before .before in
+    simp (sym (told .before .before .request-reply .ensures) ∙ told .enum-told .given .1, c .before .want .ensures, c .take .ensures)
+
+returns-2 : tie.Need-returns-2
+unfolding wantedPart
+returns-2 c =
+    let told = c .before .before in
+    simp (sym (told .before .before .request-reply .ensures) ∙ told .refusal .given .1, c .decline .ensures)
 
 pub want-mode-spec : {M : Type 1} → statement M
-want-mode-spec = tie.close (tie.spec (λ c κs. search needs) (λ c κs. search needs) (λ c κs. search needs) returns (λ c κs. search needs)
-    (λ c. unfold wantedPart in simp (sym (c .before .before .may-want .ensures) ∙ c .before .if1 .left, c .decline .ensures)))
+want-mode-spec = tie.close (tie.spec (λ c κs. search needs) (λ c. search needs) (λ c κs. search needs) (λ c κs. search needs) (λ c. search needs)
+    (λ c κs. search needs) returns returns-2)

@@ -5,9 +5,6 @@ use Rattle.slots.proofs.settling.settle.Statement.{statement}
 use Rattle.slots.proofs.settling.settle.Tie as tie
 
 pub settle-spec : {M : Type 1} → statement M
-settle-spec = tie.close (tie.spec (λ c. search needs) (λ c κs. search needs) (λ c. search needs) (λ c κs. search needs) (λ c. search needs)
-    (λ c κs. search needs) (λ c. search needs) (λ c κs. search needs)
+settle-spec = tie.close (tie.spec (λ c. search needs) (λ c κs. search needs) (λ c. search needs) (λ c κs. search needs)
     (λ c. unfold settled in simp (c .before .enum-told .given .1, c .with-state .ensures))
-    (λ c. unfold settled in simp (c .before .enum-told2 .given .1, c .refuse .ensures))
-    (λ c. unfold settled in simp (c .before .enum-told3 .given .1, c .refuse2 .ensures))
-    (λ c. unfold settled in simp (c .before .enum-told4 .given .1, c .refuse3 .ensures)))
+    (λ c. unfold settled in simp (c .before .before .reply .given .1, c .refuse .ensures)))
