@@ -553,16 +553,20 @@ class Documents(unittest.TestCase):
         self.assert_none(faults_of_commands(tried))
 
 
-    def test_first_recording_is_the_one_shown(self):
-        """What README shows of a script stands in a file, and what it shows of the words for the output is what `explain` writes."""
+    def test_recordings_are_those_shown(self):
+        """What README shows of a script stands in a file, and what it shows of the words for an output is what `explain` writes."""
         shown = [block for block in indented_blocks(documents()["README.md"]) if block]
         script = (ROOT / "examples" / "first.script").read_text(encoding="utf-8")
         self.assertIn(script.splitlines(), shown)
-        explained = [sys.executable, "-B", "tools/recording", "explain", "examples/first.script", "examples/first.txt"]
-        words = subprocess.run(explained, cwd=ROOT, stdout=subprocess.PIPE, check=True).stdout.decode().splitlines()
-        quoted = [block for block in shown if block[0].startswith("11 0 ")]
-        self.assertEqual([len(block) for block in quoted], [6])
-        self.assertIn("\n".join(quoted[0]), "\n".join(words))
+        for example, begin, length in (
+            ("first", "11 0 ", 6), ("stall", "14 0 ", 10), ("silent", "7 8 ", 2), ("silent", "11 36 ", 2), ("silent", "22 37 ", 2),
+        ):
+            explained = [sys.executable, "-B", "tools/recording", "explain", f"examples/{example}.script", f"examples/{example}.txt"]
+            words = subprocess.run(explained, cwd=ROOT, stdout=subprocess.PIPE, check=True).stdout.decode().splitlines()
+            quoted = [block for block in shown if block[0].startswith(begin)]
+            with self.subTest(example, begin=begin):
+                self.assertEqual([len(block) for block in quoted], [length])
+                self.assertIn("\n".join(quoted[0]), "\n".join(words))
 
 
 class FaultsAreFound(unittest.TestCase):
