@@ -248,6 +248,7 @@ module _ where
   unfolding computedLife
   silent-coming-up-with-25 q = false≢true (q .coming-up 1 refl)
 
+  -- `coming-up`: and the other way round
   pub silent-going-down-with-24 : Requests network (refusedWith 0x24 (aRequest 1)) (lives network falling) → ⊥
   unfolding computedLife
   silent-going-down-with-24 q = true≢false (q .coming-up 1 refl)

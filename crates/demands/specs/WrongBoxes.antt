@@ -4,7 +4,7 @@ use Prim.Native.Nat.{ℕ, _≤_}
 use native.Mathlib.Omega.{arith}
 use mathlib.Core.Path.{_≡_, refl, sym, _∙_}
 use mathlib.Core.List.{List, [], _∷_, _++_}
-use mathlib.Core.Bool.{Bool, true, false, true≢false, false≢true}
+use mathlib.Core.Bool.{Bool, false, true≢false, false≢true}
 use Rattle.lists.specs.Lists.{any, every}
 use Rattle.records.specs.declared.Record.{Record}
 use Rattle.records.specs.Records.{handed}

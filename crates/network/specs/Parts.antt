@@ -2,7 +2,7 @@
 -- names an id is this part of the network that has it. The rules R2, R13, R15, N14, B6, X5, A1 and A3 to A6 of docs/RULES.md.
 use Prim.Native.Nat.{ℕ}
 use mathlib.Core.List.{List, []}
-use mathlib.Core.Bool.{Bool, true, false, cond}
+use mathlib.Core.Bool.{Bool, false, cond}
 use lib.Dec.{eqb, ltb}
 use Rattle.records.specs.declared.Mode.{Mode}
 use Rattle.records.specs.declared.Record.{Record}

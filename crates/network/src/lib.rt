@@ -71,7 +71,7 @@ pub enum Hit {
 pub enum Refusal {
     // R13: 21, a mode above 2 or an ok value above 1.
     OutOfRange,
-    // R14, R22, R23: 08, 24, 25, silent asked for where the network is off, comes up, goes down.
+    // R14, R22, R23: 08, 24, 25, silent asked for where the network is asleep, comes up, goes down.
     Asleep,
     ComingUp,
     GoingDown,

@@ -18,7 +18,7 @@ use Rattle.network.specs.Replies.{replyNumber, isTaken, silentReply}
 use Rattle.network.specs.Parts.{Sight, aStall, anAnswer, aRequest, aReport, outOfRange, hitReply, takenPart}
 use Rattle.network.specs.Parts.{reportPart, answerPart}
 use Rattle.network_theorems.proofs.Parts.{reply-accepted, by-stall, request-number}
-use Rattle.network_demands.specs.Words.{Seen, OwnHistory, accepted, rested, on, up, told}
+use Rattle.network_demands.specs.Words.{Seen, OwnHistory, accepted, told}
 use Rattle.network_demands.specs.Own.{played, handed, stateOf, concerns, Fits, Ran}
 use Rattle.network_demands.specs.Promises.{BusOffs, Stalls, Answers, Requests}
 use Rattle.network_demands.proofs.Views.{by-part}

@@ -20,7 +20,6 @@ use Rattle.sheet.specs.declared.Written.{Written}
 use Rattle.sheet.specs.Reading.{decode}
 use Rattle.sheet.specs.Encode.{encode}
 use Rattle.sheet.specs.Writing.{bufferAfter}
-use Rattle.network.specs.declared.Part.{Part}
 use Rattle.network.specs.declared.Reply.{Reply}
 use Rattle.network.specs.declared.Report.{Report}
 use Rattle.network.specs.declared.State.{State}

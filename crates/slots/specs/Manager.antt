@@ -1,7 +1,7 @@
 -- The manager, its answers with their numbers, and what all calls share. The rules R1 to R4, R7 to R12, R16, H2 and T1 of docs/RULES.md.
 use Prim.Native.Nat.{ℕ, _+_, _*_, max}
 use mathlib.Core.List.{List, [], _∷_, _++_}
-use mathlib.Core.Bool.{Bool, false}
+use mathlib.Core.Bool.{false}
 use lib.ListN.{length, getD, take, set, replicate}
 use Rattle.records.specs.declared.Mode.{Mode}
 use Rattle.records.specs.declared.Record.{Record}
