@@ -238,7 +238,7 @@ struct outcome manager_bus_off(struct manager *manager, uint8_t id, uint8_t *out
     struct network *network = &manager->network[(found - 1) / MOST_CONTROLLERS];
     struct records to = { out, 0 };
     if (is_up(network->step)) {
-        if (network->bus_offs < 255) network->bus_offs++;
+        if (network->step != RESTARTING && network->bus_offs < 255) network->bus_offs++;
         put(&to, REPORT, network->handle, 1);
         tell(&to, network, SILENT);
         put(&to, NOTE, network->handle, 3);

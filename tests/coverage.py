@@ -6,6 +6,7 @@ rules, from the start of a network on, so a list of cases can be held against it
 steps         the seventeen steps
 transitions   each step and next step that a tick, a bus-off or a stall can make, for each outfit; staying is one too
 decisions     each thing that a tick can find: what the model's `next_step` is given
+counts        each step that takes a bus-off, and whether one is counted there
 answers       each number that reading the sheet or an event can be answered with
 refusals      the refusal numbers among the answers
 records       each kind of record with each argument
@@ -162,6 +163,15 @@ def bus_off_transitions(outfit: int, step: int) -> Iterator[Transition]:
         yield Transition(outfit, EventTag.BUS_OFF, step, network.step)
 
 
+def possible_counts() -> Iterator[Tuple[int, bool]]:
+    """The steps that take a bus-off, each with whether the first one there is counted."""
+    for step in model.ALL_STEPS:
+        network = model.NetworkRecord(example_settings(Outfit.PARTIAL_NETWORKING), step, [None])
+        if model.takes_bus_off(network):
+            model.bus_off_network(network)
+            yield step, network.bus_off_count > 0
+
+
 def stall_transitions(outfit: int, step: int) -> Iterator[Transition]:
     """Where a stall takes a network of this outfit from this step; nothing where it is refused."""
     network = model.NetworkRecord(example_settings(outfit), step, [None])
@@ -226,6 +236,7 @@ def possible() -> Dict[str, FrozenSet]:
         "steps": frozenset(transition.step for transition in transitions),
         "transitions": transitions,
         "decisions": frozenset(possible_situations()),
+        "counts": frozenset(possible_counts()),
         "answers": answers,
         "refusals": frozenset(answer for _, answer in answers if answer != model.ACCEPTED),
         "records": records,
@@ -305,6 +316,11 @@ class Reached:
         for kind, _, argument in outcome.records:
             self.times["records"][kind, argument] += 1
 
+    def note_count(self, step: int, before: int, after: int) -> None:
+        """A bus-off was taken in this step, with so many counted before and after; one that finds 255 shows nothing."""
+        if before < Limit.BUS_OFF_COUNT:
+            self.times["counts"][step, after > before] += 1
+
     def note_output(self, data: bytes, output: str) -> None:
         """The first line of a whole output, and how it ends."""
         words = output.split()
@@ -330,11 +346,14 @@ def watched_cantrace(data: bytes, reached: Reached) -> str:
         """The model's `run_event`, watched."""
         moving = moved_networks(manager, tag, value) if tag in MOVING_EVENTS else []
         found = [situation_of(network) for network in moving]
+        counted = [network.bus_off_count for network in moving]
         outcome = plain_run_event(manager, tag, value)
         reached.note_event(tag, outcome)
         if outcome.answer == model.ACCEPTED:
-            for situation, network in zip(found, moving):
+            for situation, count, network in zip(found, counted, moving):
                 reached.note_transition(tag, situation, network.step)
+                if tag == EventTag.BUS_OFF:
+                    reached.note_count(situation.step, count, network.bus_off_count)
         return outcome
 
     with mock.patch.object(model, "run_event", run_event):
@@ -381,6 +400,8 @@ def words_of(name: str, thing: object) -> str:
         return f"{EVENT_NAMES[thing[0]]} answered {thing[1]:02X}"
     if name == "refusals":
         return f"{thing:02X}"
+    if name == "counts":
+        return f"a bus-off in step {thing[0]}, {yes_or_no('counted', thing[1])}"
     if name == "records":
         return f"kind {thing[0]} argument {thing[1]}"
     return str(thing)
@@ -476,6 +497,9 @@ def table(reached: Reached) -> List[str]:
     lines.append("steps: times that a tick, a bus-off or a stall ended there")
     lines += rows(f"{step}: {steps[step]}" for step in sorted(possible()["steps"]))
     lines += transition_rows(reached)
+    lines.append("bus-offs, step and whether it was counted: times")
+    counts = reached.times["counts"]
+    lines += rows(f"{step} {yes_or_no('counted', counted)}: {counts[step, counted]}" for step, counted in sorted(possible()["counts"]))
     lines += answer_rows(reached)
     lines.append("records, kind:argument: times")
     lines += rows(f"{kind}:{argument}: {records[kind, argument]}" for kind, argument in sorted(possible()["records"]))

@@ -54,6 +54,8 @@ WITH_TRANSCEIVER = network(9, [4], 6, times=(1, 2, 1), threshold=0)
 PARTIAL = network(20, [30, 1], 5, times=(1, 3, 2), threshold=0, partial=1)
 # Two networks of two controllers each.
 PAIR = network(1, [10, 11], times=(1, 4, 2), threshold=0) + network(2, [12, 0], 3, times=(3, 1, 2), threshold=254)
+# Two controllers on one cable, delays 2 and 5: one fault still brings the short one.
+TWO_CHIPS = network(8, [5, 6])
 # Two networks, the first with partial networking: both kinds of first down step.
 MIXED = PARTIAL + SHEET
 # The largest sheet: 8 networks of 4 controllers each, with a transceiver.
@@ -374,9 +376,49 @@ SILENT_TOLD_APART = [
     ],
 ]
 
+# From the start of the sheet of two chips to full, told on the last tick; from a bus-off to step 7; one fault that both report.
+BOTH_UP = [
+    *begun(TWO_CHIPS), TICK, *answers([5, 6], 0), TICK, *answers([5, 6], 2), TICK, ("request", 8, 2), TICK, *answers([5, 6], 0), TICK,
+    *answers([5, 6], 1), TICK,
+]
+BOTH_RESTARTED = [TICK, *answers([5, 6], 1), TICK]
+FAULT = [("bus-off", 5, 9), ("bus-off", 6, 9)]
+
+ONE_FAULT_OF_TWO_CHIPS = [
+    # One fault that both chips report: the short delay. A second one, in step 7: the long delay. After passed the short one again.
+    [
+        *BOTH_UP, *FAULT, *BOTH_RESTARTED, TICK, ("poll", 8), TICK, ("poll", 8), *FAULT, *BOTH_RESTARTED, *ticks(4), ("poll", 8), TICK,
+        ("poll", 8), *CHECKED, *FAULT, *BOTH_RESTARTED, *ticks(2), ("poll", 8),
+    ],
+    # Reports in step 6 before the request, with too few bytes, after the request, after one answer and after both: each forgets the answers,
+    # hands out its three records and is not counted. Then one in step 7, which is.
+    [
+        *BOTH_UP, *FAULT, ("bus-off", 6, 8), ("bus-off", 5, 9), *answers([5, 6], 1), TICK, ("bus-off", 6, 9), *answers([5], 1), TICK,
+        *answers([5], 1), ("bus-off", 6, 9), *answers([6], 1), TICK, *answers([5, 6], 1), ("bus-off", 5, 9), TICK, TICK, *answers([5, 6], 1),
+        TICK, TICK, ("bus-off", 6, 9), *BOTH_RESTARTED, *ticks(4), ("poll", 8), TICK, ("poll", 8),
+    ],
+    # Silent wanted in step 6, and a report there; in step 8 a report is a fault again.
+    [
+        *BOTH_UP, ("bus-off", 5, 9), ("request", 8, 1), TICK, ("bus-off", 6, 9), *BOTH_RESTARTED, *ticks(2), ("poll", 8), *FAULT,
+        ("request", 8, 2), *BOTH_RESTARTED, *ticks(4), ("poll", 8), TICK, ("poll", 8),
+    ],
+    # A shutdown in step 6: after it a report is a fault again, and the count is the one from before.
+    [
+        *BOTH_UP, *FAULT, ("request", 8, 0), TICK, ("bus-off", 5, 9), *answers([5, 6], 0), TICK, *answers([5, 6], 2), TICK, ("request", 8, 2),
+        TICK, *answers([5, 6], 0), TICK, *answers([5, 6], 1), TICK, *FAULT, *BOTH_RESTARTED, *ticks(4), ("poll", 8), TICK, ("poll", 8),
+    ],
+    # A stall, and in step 15 and in step 16 a fault that both chips report: counted once each.
+    [
+        *BOTH_UP, ("stall", 8, 3), *FAULT, *BOTH_RESTARTED, *ticks(2), ("poll", 8), ("stall", 8, 3), TICK, *answers([5, 6], 0), TICK, *FAULT,
+        *BOTH_RESTARTED, *ticks(4), ("poll", 8), TICK, ("poll", 8),
+    ],
+]
+
 CALLS = [
     call
-    for cases in (WHOLE_CASE, BENCH_CASES, REFUSALS, PARTIAL_NETWORKING, TWO_NETWORKS, STALLS, SILENT_TOLD_APART)
+    for cases in (
+        WHOLE_CASE, BENCH_CASES, REFUSALS, PARTIAL_NETWORKING, TWO_NETWORKS, STALLS, SILENT_TOLD_APART, ONE_FAULT_OF_TWO_CHIPS,
+    )
     for case in cases
     for call in case
 ]

@@ -884,8 +884,9 @@ def bus_off_network(network: NetworkRecord) -> List[Record]:
     if network.step == Step.CONTROLLERS_STARTED:
         forget_answers(network)
         return []
-    # B2: one bus-off more, up to 255
-    network.bus_off_count = min(network.bus_off_count + 1, Limit.BUS_OFF_COUNT)
+    # B2: one bus-off more, up to 255; but not in step 6, where a second chip may report the same fault
+    if network.step != Step.RESTARTING:
+        network.bus_off_count = min(network.bus_off_count + 1, Limit.BUS_OFF_COUNT)
     # B4: step 6, which has not asked
     set_step(network, Step.RESTARTING)
     # B3: the event manager, the communication manager and the mode manager are told

@@ -219,11 +219,13 @@ def two_recoveries(times: Tuple[int, int, int], threshold: int) -> bytes:
     return trace.recorded()
 
 
-def many_bus_offs(number: int) -> bytes:
-    """So many bus-offs at the threshold 254, then the delay; after passed one more bus-off."""
+def many_bus_offs(number: int, in_step: int) -> bytes:
+    """So many bus-offs at the threshold 254, all but the first in this step, then the delay; after passed one more bus-off."""
     trace = Trace(network(7, [3], times=(1, 4, 2), threshold=254))
     trace.go_to(Step.FULL)
-    for _ in range(number):
+    trace.bus_off()
+    for _ in range(number - 1):
+        trace.go_to(in_step)
         trace.bus_off()
     recover(trace)
     trace.go_to(Step.FULL)
@@ -341,7 +343,7 @@ def bus_off_cases() -> Iterator[Case]:
     yield Case("long delay below the short one", two_recoveries((6, 1, 2), 1))
     yield Case("all times 1", two_recoveries((1, 1, 1), 0))
     for number in (254, 255, 256, 300):
-        yield Case(f"{number} bus-offs at the threshold 254", many_bus_offs(number))
+        yield Case(f"one fault, reported {number} times at the threshold 254", many_bus_offs(number, Step.RESTARTING))
     yield Case("bus-offs in step 6", bus_offs_in_restarting())
     yield Case("bus-offs in step 7", bus_offs_in_waiting())
     yield Case("bus-offs in step 3", bus_offs_in_coming_up())
@@ -1044,3 +1046,114 @@ def silent_cases() -> Iterator[Case]:
     yield Case("silent asked for of two networks", silent_beside_others(partial, bare))
     yield Case("silent asked for of three networks", silent_beside_others(bare, fitted, partial))
     yield Case("silent asked for of eight networks", silent_beside_others(*LARGEST))
+
+
+# ---------------------------------------------------------------------------
+# Two chips, one cable
+# ---------------------------------------------------------------------------
+
+# Two controllers on one cable: a fault of the cable is reported by both. One fault still brings the short delay.
+TWO_CHIPS = network(7, [3, 12], threshold=1)
+
+
+def reports(trace: Trace, *controllers: int) -> None:
+    """Bus-offs of these controllers, by their places, one after the other."""
+    for controller in controllers:
+        trace.bus_off(controller=controller)
+
+
+def faults_of_two_chips(number: int) -> bytes:
+    """So many faults in step 5 and in step 7, each reported by both chips before the next tick; then full again, and passed."""
+    trace = Trace(TWO_CHIPS)
+    trace.go_to(Step.FULL)
+    for _ in range(number - 1):
+        reports(trace, 0, 1)
+        trace.go_to(Step.WAITING)
+    reports(trace, 1, 0)
+    recover(trace)
+    trace.poll()
+    trace.go_to(Step.FULL)
+    return trace.recorded()
+
+
+def reports_late() -> bytes:
+    """The second chip reports in step 6: after the tick that asks, after its own answer, after both answers. Each begins the recovery anew."""
+    trace = Trace(TWO_CHIPS)
+    trace.go_to(Step.FULL)
+    for answered in range(3):
+        trace.bus_off()
+        trace.tick()
+        for controller in (12, 3)[:answered]:
+            trace.event(EventTag.CONTROLLER_ANSWER, controller, ControllerMode.STARTED, OK)
+        trace.bus_off(controller=1)
+        trace.event(EventTag.CONTROLLER_ANSWER, 3, ControllerMode.STARTED, OK)
+        recover(trace)
+        trace.go_to(Step.FULL)
+    return trace.recorded()
+
+
+def report_after_the_restart() -> bytes:
+    """The second chip reports only in step 7, when both run again: that is a second fault, with the long delay."""
+    trace = Trace(TWO_CHIPS)
+    trace.go_to(Step.FULL)
+    trace.bus_off()
+    trace.go_to(Step.WAITING)
+    trace.bus_off(controller=1)
+    recover(trace)
+    return trace.recorded()
+
+
+def faults_in(step: int) -> bytes:
+    """A fault, reported by both chips, in this step, and after it a second one in step 7: the long delay from there on."""
+    trace = Trace(TWO_CHIPS)
+    trace.go_to(step)
+    reports(trace, 1, 0)
+    trace.go_to(Step.WAITING)
+    reports(trace, 0, 1)
+    trace.want(Mode.FULL)
+    recover(trace)
+    return trace.recorded()
+
+
+def down_while_restarting() -> bytes:
+    """A fault, a shutdown in step 6, and up again: a bus-off then is a second fault, though nobody has gone TX offline since the first."""
+    trace = Trace(TWO_CHIPS)
+    trace.go_to(Step.FULL)
+    reports(trace, 0, 1)
+    trace.tick()
+    trace.want(Mode.NO)
+    trace.go_to(Step.NO_COMMUNICATION)
+    trace.go_to(Step.CHECKING)
+    reports(trace, 1, 0)
+    recover(trace)
+    return trace.recorded()
+
+
+def fault_of_four_chips() -> bytes:
+    """Four chips on one cable, of a network beside another one: each reports the fault twice, and the other network counts nothing of it."""
+    trace = Trace(network(0, [31, 0, 17, 5], times=(1, 4, 2), threshold=1), network(9, [1, 2], times=(1, 4, 2), threshold=1))
+    for index in range(2):
+        trace.go_to(Step.FULL, index)
+    for controller in (0, 1, 2, 3, 3, 2, 1, 0):
+        trace.bus_off(0, controller)
+    trace.replied_tick(5)
+    trace.bus_off(1, 1)
+    trace.bus_off(1, 0)
+    trace.replied_tick(5)
+    for index in range(2):
+        trace.poll(index)
+    return trace.recorded()
+
+
+def two_chip_cases() -> Iterator[Case]:
+    """A fault that both chips of a network report is counted once; a second fault brings the long delay."""
+    for number in (1, 2, 3):
+        yield Case(f"faults that both chips report: {number}", faults_of_two_chips(number))
+    yield Case("the second chip reports after the request", reports_late())
+    yield Case("the second chip reports in step 7", report_after_the_restart())
+    for step in sorted(model.UP_STEPS):
+        yield Case(f"both chips report in step {step}, and in step 7", faults_in(step))
+    yield Case("both chips report, and a shutdown in step 6", down_while_restarting())
+    yield Case("four chips report one fault", fault_of_four_chips())
+    for number in (254, 255, 256):
+        yield Case(f"{number} faults at the threshold 254", many_bus_offs(number, Step.WAITING))

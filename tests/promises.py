@@ -192,13 +192,26 @@ class Words:
         """The entry at this place is a bus-off while up."""
         return place >= 0 and fell(history[place]) and self.up(history[:place])
 
+    def quieted(self, entry: Seen) -> bool:
+        """TX offline went to a controller of the network."""
+        return any(entry.hands(Kind.PDU_MODE, controller, PduMode.TX_OFFLINE) for controller in self.network.controllers)
+
+    def restarting(self, history: History) -> bool:
+        """A bus-off while up came since the last TX offline and since the last shutdown."""
+        begin = len(history) - len(since(lambda entry: self.quieted(entry) or self.shut(entry), history))
+        return any(self.fell_up(place, history) for place in range(begin, len(history)))
+
+    def counts(self, place: int, history: History) -> bool:
+        """The entry at this place is a bus-off while up, and not while restarting: both are read off what went before it."""
+        return self.fell_up(place, history) and not self.restarting(history[:place])
+
     def falls(self, history: History) -> int:
-        """The bus-offs while up since the last all-clear: whether one came while up is read off what went before it."""
+        """The bus-offs that count, since the last all-clear."""
         count = 0
         for place, entry in enumerate(history):
             if self.cleared(entry):
                 count = 0
-            elif self.fell_up(place, history):
+            elif self.counts(place, history):
                 count += 1
         return count
 
@@ -296,6 +309,14 @@ def broken_by_delay(words: Words, history: History) -> List[str]:
         if full != (over and words.wanted_at_tick(history) == Mode.FULL) or first == 1:
             found.append("late-answers")
     return found
+
+
+def broken_by_one_fault(words: Words, history: History) -> List[str]:
+    """After a bus-off while up no bus-off more counts, and none is forgotten, until TX offline or a shutdown."""
+    begin = len(history) - len(since(lambda entry: words.quieted(entry) or words.shut(entry), history))
+    falling = [place for place in range(begin - 1, len(history)) if words.fell_up(place, history)]
+    same = all(words.falls(history[:place + 1]) == words.falls(history) for place in falling)
+    return [] if same else ["one-fault"]
 
 
 def broken_by_good_times(words: Words, history: History) -> List[str]:
@@ -399,6 +420,22 @@ def broken_by_full(words: Words, entry: Seen, before: History) -> List[str]:
     return found
 
 
+def broken_by_silent(words: Words, entry: Seen, before: History) -> List[str]:
+    """When silent is entered and controllers go TX offline: with the wait after a bus-off while up, and where silent is wanted and is entered,
+    which is never while restarting."""
+    found = []
+    after = before + [entry]
+    notes_silent = entry.hands(Kind.MODE_MANAGER, words.handle, ModeManagerNotice.SILENT)
+    if notes_silent and (words.wanted(before) != Mode.SILENT or words.restarting(before)):
+        found.append("silent-entered")
+    part = since(words.setback, after)
+    wait_begins = ticked(entry) and words.owed(after) > 0 and words.first_running(part) == ticks(part)
+    quiet = [entry.hands(Kind.PDU_MODE, controller, PduMode.TX_OFFLINE) for controller in words.network.controllers]
+    if any(goes != (notes_silent or wait_begins) for goes in quiet):
+        found.append("offline")
+    return found
+
+
 def broken_by_down(words: Words, entry: Seen, before: History) -> List[str]:
     """When a shutdown begins, and what goes out before a network has come to rest."""
     found = []
@@ -447,9 +484,10 @@ def broken_by_start(words: Words, entry: Seen, before: History) -> List[str]:
     return found
 
 
-STATEMENTS_OF_A_HISTORY = (broken_by_told, broken_by_delay, broken_by_good_times)
+STATEMENTS_OF_A_HISTORY = (broken_by_told, broken_by_delay, broken_by_one_fault, broken_by_good_times)
 STATEMENTS_OF_AN_ENTRY = (
-    broken_by_bus_off, broken_by_stall, broken_by_answer, broken_by_request, broken_by_full, broken_by_down, broken_by_start,
+    broken_by_bus_off, broken_by_stall, broken_by_answer, broken_by_request, broken_by_full, broken_by_silent, broken_by_down,
+    broken_by_start,
 )
 
 

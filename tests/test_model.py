@@ -406,7 +406,11 @@ class Traces(unittest.TestCase):
             ("160000", "0 1:3:1"), ("120003 030101", "0"),
             ("160000", "0 3:3:0 6:7:2 7:7:2"),
             ("110001 03", "0 8:7:1 6:7:1 7:7:3"),
-            ("110001 03", "0 8:7:1 6:7:1 7:7:3"),  # taken in 6 too, and counted
+            ("110001 03", "0 8:7:1 6:7:1 7:7:3"),  # taken in 6 too, and not counted: the short delay
+            ("160000", "0 1:3:1"), ("120003 030101", "0"),
+            ("160000", "0 3:3:1"),
+            ("160000", "0"),
+            ("110001 03", "0 8:7:1 6:7:1 7:7:3"),  # in 7 it is counted: the long delay
             ("160000", "0 1:3:1"), ("120003 030101", "0"),
             ("160000", "0 3:3:1"),
             ("160000", "0"), ("160000", "0"), ("160000", "0"), ("160000", "0"),
@@ -748,10 +752,38 @@ class StepRules(unittest.TestCase):
         self.assertEqual(replied_ticks_until_full(box), 7)
 
     def test_the_bus_off_count_stays_at_255(self):
-        box = box_in_step(5)
+        box = box_in_step(7)
         for _ in range(300):
             box.bus_off()
+            box.tick_until(7)
         self.assertEqual(box.network.bus_off_count, 255)
+
+    def test_a_bus_off_in_step_6_is_not_counted(self):
+        box = box_in_step(5)
+        for tick_before in (False, False, True, True):
+            if tick_before:
+                box.tick()
+            self.assertEqual(box.bus_off().records, [(8, 7, 1), (6, 7, 1), (7, 7, 3)])
+            self.assertEqual((box.network.step, box.network.asked, box.network.bus_off_count), (6, False, 1))
+            self.assertEqual(box.manager.controller_answer(3, 1, 1).answer, 0x22)
+        self.assertEqual(replied_ticks_until_full(box), 4)
+
+    def test_a_bus_off_in_any_other_up_step_is_counted(self):
+        for step, counted in ((4, 1), (5, 1), (7, 2), (8, 1), (15, 1), (16, 1)):
+            with self.subTest(step=step):
+                box = box_in_step(step)
+                box.bus_off()
+                self.assertEqual(box.network.bus_off_count, counted)
+
+    def test_after_a_shutdown_in_step_6_a_bus_off_is_counted(self):
+        box = box_in_step(6)
+        box.want(Mode.NO)
+        box.tick_until(0)
+        box.want(Mode.FULL)
+        box.tick_until(4)
+        box.bus_off()
+        self.assertEqual(box.network.bus_off_count, 2)
+        self.assertEqual(replied_ticks_until_full(box), 7)
 
     def test_a_refused_tick_counts_nowhere(self):
         box = box_in_step(4)

@@ -13,7 +13,7 @@ from unittest.mock import patch
 
 import model
 from model import Kind, Limit, Mode, Refusal, Settings, Step
-from promises import ANSWER, BUS_OFF, CHECKED, CLEARED, REPORT, REQUEST, STALL, TICK, Call, History, broken, view
+from promises import ANSWER, BUS_OFF, CHECKED, CLEARED, REPORT, REQUEST, STALL, TICK, Call, History, Words, broken, view
 
 HISTORIES = 60
 CALLS_OF_A_HISTORY = 70
@@ -113,12 +113,23 @@ def entry_of(manager: model.Manager, call: Call) -> Tuple[Call, int, List[model.
     return call, outcome.answer, outcome.records
 
 
-def random_life(random: Random) -> Life:
-    """The neighbours answer mostly, and stray calls come in between; a full network is stalled now and then."""
-    networks = random_sheet(random)
+def started(networks: List[Settings]) -> model.Manager:
     manager = model.Manager.new()
     manager.read(model.write_sheet(networks))
     manager.start()
+    return manager
+
+
+def chips_beside(networks: List[Settings], controller: int) -> List[int]:
+    """The other controllers of the network that has this one."""
+    return [chip for network in networks if controller in network.controllers for chip in network.controllers if chip != controller]
+
+
+def random_life(random: Random) -> Life:
+    """The neighbours answer mostly, and stray calls come in between; a full network is stalled now and then, and a bus-off is often reported by
+    every chip of its network."""
+    networks = random_sheet(random)
+    manager = started(networks)
     entries: List[Tuple[Call, int, List[model.Record]]] = []
     refused_with_room = []
     coming = [Call(REQUEST, (network.handle, Mode.FULL)) for network in networks if random.random() < 0.9]
@@ -133,6 +144,9 @@ def random_life(random: Random) -> Life:
         if full and random.random() < 0.06:
             call = Call(STALL, (random.choice(full),), FULL_ROOM)
         entries.append(entry_of(manager, call))
+        if call.name == BUS_OFF and random.random() < 0.4:
+            # the other chips of the network report the same fault
+            coming = [Call(BUS_OFF, (chip,), FULL_ROOM) for chip in chips_beside(networks, call.values[0])] + coming
         if call.name == TICK and call.lent == FULL_ROOM:
             _, number, records = entries[-1]
             if number != model.ACCEPTED:
@@ -141,12 +155,10 @@ def random_life(random: Random) -> Life:
     return Life(networks, entries, refused_with_room)
 
 
-def prompt_life(after_tick: Dict[int, List[Call]], ticks: int) -> Life:
+def prompt_life(after_tick: Dict[int, List[Call]], ticks: int, controllers: int = 1) -> Life:
     """A life of one network whose neighbours answer every request with ok at once; after the tick of a number come these calls."""
-    network = Settings(handle=1, controllers=[0], short_delay=1, long_delay=5, ensure_time=9, threshold=1)
-    manager = model.Manager.new()
-    manager.read(model.write_sheet([network]))
-    manager.start()
+    network = Settings(handle=1, controllers=list(range(controllers)), short_delay=1, long_delay=5, ensure_time=9, threshold=1)
+    manager = started([network])
     entries: List[Tuple[Call, int, List[model.Record]]] = []
     for number in range(ticks + 1):
         coming = after_tick.get(number, [])
@@ -188,6 +200,24 @@ def short_stall() -> Life:
     return prompt_life({0: [Call(REQUEST, (1, Mode.FULL))], 7: short + early + [Call(STALL, (1,), Limit.STALL_BYTES)] + early}, 14)
 
 
+def two_chips() -> Life:
+    """Up; one fault that both chips report, at once and after the tick that asks; full, and passed. A fault, and a second one in step 7; passed.
+    A fault, a shutdown in step 6, and up again, where a fault is the second. Two controllers."""
+    wants = {mode: [Call(REQUEST, (1, mode))] for mode in (Mode.NO, Mode.FULL)}
+    first, other = [Call(BUS_OFF, (0,), FULL_ROOM)], [Call(BUS_OFF, (1,), FULL_ROOM)]
+    one = {0: wants[Mode.FULL], 7: first + other, 8: other}
+    two = {21: first + other, 23: other + first}
+    apart = {40: other + first + wants[Mode.NO], 43: wants[Mode.FULL], 47: first, 48: other}
+    return prompt_life({**one, **two, **apart}, 57, controllers=2)
+
+
+def faults_in_silent() -> Life:
+    """Up; a fault; full again, then silent, and there a second fault; full is wanted again."""
+    wants = {mode: [Call(REQUEST, (1, mode))] for mode in (Mode.SILENT, Mode.FULL)}
+    fault = [Call(BUS_OFF, (1,), FULL_ROOM), Call(BUS_OFF, (0,), FULL_ROOM)]
+    return prompt_life({0: wants[Mode.FULL], 7: fault, 10: wants[Mode.SILENT], 12: fault + wants[Mode.FULL]}, 20, controllers=2)
+
+
 def faults(life: Life) -> Set[str]:
     """The names of the statements that a life breaks first, for any of its networks."""
     networks, entries, refused_with_room = life
@@ -198,6 +228,21 @@ def faults(life: Life) -> Set[str]:
         if found:
             names.update(found[1])
     return names
+
+
+def miscounted(life: Life) -> List[str]:
+    """Where the words of a history and the model's records part: restarting and step 6, the bus-offs that count and the count."""
+    manager = started(life.networks)
+    found = []
+    for number, (call, _, _) in enumerate(life.entries, 1):
+        made(manager, call)
+        for network, record in zip(life.networks, manager.networks):
+            words, history = Words(network), [view(network, *entry) for entry in life.entries[:number]]
+            if words.restarting(history) != (record.step == Step.RESTARTING):
+                found.append(f"entry {number}: restarting")
+            if min(words.falls(history), Limit.BUS_OFF_COUNT) != record.bus_off_count:
+                found.append(f"entry {number}: count")
+    return found
 
 
 # ---------------------------------------------------------------------------
@@ -231,6 +276,83 @@ def quiet_bus_off(network):
 
 def no_delay(network):
     return network.step == Step.WAITING or real_timer(network)
+
+
+def every_bus_off_counts(network):
+    """What a box did before a second chip's report was told from a second fault."""
+    count = network.bus_off_count
+    records = real_bus_off(network)
+    if network.step == Step.RESTARTING:
+        network.bus_off_count = min(count + 1, Limit.BUS_OFF_COUNT)
+    return records
+
+
+def not_counted_in(step):
+    """In this step a bus-off is not counted."""
+    def box(network):
+        count, before = network.bus_off_count, network.step
+        records = real_bus_off(network)
+        if before == step:
+            network.bus_off_count = count
+        return records
+    return box
+
+
+def restarting_over_a_shutdown(network):
+    """Whether the fault is the one from before is remembered over a shutdown."""
+    again = getattr(network, "down_from_restarting", False)
+    count = network.bus_off_count
+    records = real_bus_off(network)
+    if again:
+        network.bus_off_count = count
+    network.down_from_restarting = False
+    return records
+
+
+def down_from_restarting(network, step):
+    network.down_from_restarting = network.step == Step.RESTARTING
+    return real_go_down(network, step)
+
+
+def second_report_changes_nothing(network):
+    """In step 6 a bus-off says its records, and the answers are kept."""
+    if network.step != Step.RESTARTING:
+        return real_bus_off(network)
+    asked, answers = network.asked, list(network.answers)
+    records = real_bus_off(network)
+    network.asked, network.answers = asked, answers
+    return records
+
+
+def second_report_says_nothing(network):
+    """In step 6 a bus-off hands out nothing."""
+    second = network.step == Step.RESTARTING
+    records = real_bus_off(network)
+    return [] if second else records
+
+
+def silent_said_while_restarting(network):
+    """Where step 6 asks again, it says silent in the place of the requests."""
+    if network.step == Step.RESTARTING and network.asked:
+        step, count, answers = network.step, network.bus_off_count, list(network.answers)
+        records = real_enter_silent(network)
+        network.step, network.bus_off_count, network.answers, network.asked = step, count, answers, True
+        return records
+    return real_requests(network)
+
+
+def passed_while_restarting(network):
+    """With the requests of step 6 it says passed, and counts from 0."""
+    records = real_requests(network)
+    if network.step != Step.RESTARTING:
+        return records
+    network.bus_off_count = 0
+    return records + model.tell_event_manager(network, model.EventManagerNotice.PASSED)
+
+
+def no_offline_in_the_wait(network):
+    real_begin_waiting(network)
+    return []
 
 
 def second_bus_off_cancels(network):
@@ -455,6 +577,18 @@ WRONG_BOXES: Dict[str, Tuple[Dict[str, object], Dict[str, object], Set[str]]] = 
     "no bus-off is said": ({"bus_off_network": quiet_bus_off}, {}, {"bus-off-records"}),
     "no delay is kept": ({"timer_is_reached": no_delay}, {}, {"told-exactly"}),
     "a second bus-off ends the wait": ({"bus_off_network": second_bus_off_cancels}, {}, {"bus-off-records"}),
+    "a second chip's report is counted": ({"bus_off_network": every_bus_off_counts}, {}, {"told-exactly"}),
+    "a bus-off in step 7 is not counted": ({"bus_off_network": not_counted_in(Step.WAITING)}, {}, {"told-exactly"}),
+    "a bus-off in step 15 is not counted": ({"bus_off_network": not_counted_in(Step.RESET_STOPPED)}, {}, {"told-exactly"}),
+    "a bus-off in step 8 is not counted": ({"bus_off_network": not_counted_in(Step.SILENT)}, {}, {"told-exactly"}),
+    "restarting is remembered over a shutdown": (
+        {"bus_off_network": restarting_over_a_shutdown, "go_down": down_from_restarting}, {}, {"told-exactly"},
+    ),
+    "a second chip's report keeps the answers": ({"bus_off_network": second_report_changes_nothing}, {}, {"told-exactly", "answer-taken"}),
+    "a second chip's report hands out nothing": ({"bus_off_network": second_report_says_nothing}, {}, {"bus-off-records"}),
+    "silent is said while restarting": ({"requests_of_step": silent_said_while_restarting}, {}, {"silent-entered"}),
+    "passed is said while restarting": ({"requests_of_step": passed_while_restarting}, {}, {"one-fault"}),
+    "nobody goes offline in the wait": ({"begin_waiting": no_offline_in_the_wait}, {}, {"offline"}),
     "a shutdown is not said": ({"go_down": silent_shutdown}, {}, {"shutdown"}),
     "a bus-off in a short buffer is accepted": ({}, {"bus_off": bus_off_in_a_short_buffer}, {"bus-off-records", "bus-off-accepted"}),
     "full though silent is wanted": ({"next_step_waiting": full_though_silent}, {}, {"told-exactly", "full-told-by"}),
@@ -504,7 +638,7 @@ WRONG_BOXES: Dict[str, Tuple[Dict[str, object], Dict[str, object], Set[str]]] = 
     "a mode above 2 is taken for silent": ({}, {"request": unknown_mode_taken_for_silent}, {"request-out-of-range"}),
 }
 # These are tried first: random lives show some of it late.
-ARRANGED_LIVES = (there_and_back, stalls_and_falls, stalls_and_wishes, short_stall)
+ARRANGED_LIVES = (there_and_back, stalls_and_falls, stalls_and_wishes, short_stall, two_chips, faults_in_silent)
 
 
 def caught(functions: Dict[str, object], methods: Dict[str, object], wanted: Set[str]) -> Optional[Set[str]]:
@@ -526,6 +660,17 @@ class Promises(unittest.TestCase):
         for life in ARRANGED_LIVES:
             self.assertEqual(faults(life()), set(), life.__name__)
 
+    def test_the_words_of_the_count_are_the_records(self):
+        for seed in range(HISTORIES):
+            self.assertEqual(miscounted(random_life(Random(seed))), [], f"seed {seed}")
+        for life in ARRANGED_LIVES:
+            self.assertEqual(miscounted(life()), [], life.__name__)
+
+    def test_a_wrong_count_is_seen(self):
+        for box in (every_bus_off_counts, not_counted_in(Step.WAITING), not_counted_in(Step.SILENT)):
+            with patch.object(model, "bus_off_network", box):
+                self.assertNotEqual([found for life in ARRANGED_LIVES for found in miscounted(life())], [], box)
+
     def test_wrong_boxes_are_caught(self):
         for name, (functions, methods, wanted) in WRONG_BOXES.items():
             with self.subTest(name):
@@ -545,6 +690,13 @@ class Promises(unittest.TestCase):
         self.assertGreater(answers[model.ACCEPTED], HISTORIES // 2)
         for number in (Refusal.NOT_TAKEN, Refusal.UNKNOWN_HANDLE, Refusal.BUFFER_TOO_SHORT):
             self.assertGreater(answers[number], HISTORIES // 20)
+
+    def test_one_fault_of_two_chips_brings_the_short_delay(self):
+        """Full is told on the third tick after the last report of one fault, by the short delay of 1, on the seventh after a second one, by the long
+        delay of 5, and on the seventh after the last report where a shutdown came between two."""
+        _, entries, _ = two_chips()
+        tells = [any(record == (Kind.COMMUNICATION_MANAGER, 1, Mode.FULL) for record in records) for call, _, records in entries if call.name == TICK]
+        self.assertEqual([number for number, told in enumerate(tells, 1) if told], [6, 11, 30, 46, 55])
 
     def test_the_third_tick_is_tried(self):
         """Full is told on the third tick after each stall; after the bus-offs the short delay of 1 and two, and the long one of 5 and two."""

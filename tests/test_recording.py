@@ -671,6 +671,34 @@ class ExplainTest(unittest.TestCase):
             ["tell the communication manager: network 9 silent"], ["ask controller 4 to stop"],
         ])
 
+    def test_one_fault_reported_twice(self):
+        """A second report is said to be of the same fault until TX offline, or a shutdown; and only of the network that it concerns."""
+        trace = Trace(network(7, [3, 12]), network(9, [4]))
+        trace.go_to(4, 1)
+        trace.go_to(4, 0)
+        same = "taken for the same fault, which is counted already"
+
+        def told_same():
+            data = trace.recorded()
+            return [row[-1] for row in explained(data, model.cantrace(data))].count(same)
+
+        for controllers, expected in (((0,), 0), ((1,), 1), ((0, 1), 3)):
+            for controller in controllers:
+                trace.bus_off(controller=controller)
+            self.assertEqual(told_same(), expected)
+        trace.bus_off(1)
+        self.assertEqual(told_same(), 3)
+        trace.go_to(7, 0)
+        trace.bus_off(controller=1)
+        self.assertEqual(told_same(), 3)
+        trace.bus_off()
+        self.assertEqual(told_same(), 4)
+        trace.want(model.Mode.NO)
+        trace.tick()
+        trace.go_to(4, 0)
+        trace.bus_off()
+        self.assertEqual(told_same(), 4)
+
     def test_each_stop(self):
         for after, shown, words in STOPS:
             data = SHEET + TICK + bytes.fromhex(after)

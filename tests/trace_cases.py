@@ -36,6 +36,7 @@ GROUPS: List[Callable[[], Iterator[Case]]] = [
     played_cases.stall_cases,
     damaged_cases.bad_stall_cases,
     played_cases.silent_cases,
+    played_cases.two_chip_cases,
 ]
 
 

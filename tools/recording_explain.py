@@ -5,8 +5,8 @@ from typing import List, NamedTuple, Set
 from recording_fields import FIRST_EVENT_TAG, LONGEST_RECORDING, Fault, Field, Tag
 from recording_output import ACCEPTED, EVENTS_WITH_RECORDS, TOO_LONG, ConfigLine, EventLine, Output, Recording, ids_in, read_output
 from recording_script import field_line
-from recording_words import ADVICE, CALL_REFUSALS, MODE_WORDS, OF_A_RESET, SHEET_REFUSALS, STALL_OUTLOOK, Kind, Record
-from recording_words import event_words, record_words
+from recording_words import ADVICE, CALL_REFUSALS, MODE_WORDS, NO_COMMUNICATION, OF_A_RESET, SAME_FAULT, SHEET_REFUSALS, STALL_OUTLOOK
+from recording_words import TX_OFFLINE, Kind, Record, event_words, record_words
 
 WIDEST_LINE = 28
 GAP = "  "
@@ -61,26 +61,39 @@ def config_meanings(recording: Recording, config: ConfigLine) -> List[str]:
     return [f"accepted: {config.number} network" + ("" if config.number == 1 else "s")]
 
 
-class Resets:
-    """The networks that are being reset: from a stall that is accepted to the next notice for the mode manager, which says how it ends."""
+class Troubled:
+    """The networks that are being reset: from a stall that is accepted to the next notice for the mode manager, which says how it ends. And those
+    that are restarting: from a bus-off that is told to a TX offline of one of their controllers, or to no for the mode manager."""
 
     def __init__(self, recording: Recording) -> None:
         self.handle_of = {
             controller: ids_in(fields, Tag.HANDLE)[0] for fields in recording.networks for controller in ids_in(fields, Tag.CONTROLLER)
         }
-        self.handles: Set[int] = set()
+        self.resetting: Set[int] = set()
+        self.restarting: Set[int] = set()
 
     def record_words(self, record: Record) -> str:
         """A record in a sentence; of a request to a controller also whether it is for the reset."""
         if record.kind == Kind.MODE_MANAGER:
-            self.handles.discard(record.target)
-        belongs = record.kind == Kind.CONTROLLER_MODE and self.handle_of[record.target] in self.handles
+            self.resetting.discard(record.target)
+        if record == Record(Kind.MODE_MANAGER, record.target, NO_COMMUNICATION):
+            self.restarting.discard(record.target)
+        if record == Record(Kind.PDU_MODE, record.target, TX_OFFLINE):
+            self.restarting.discard(self.handle_of[record.target])
+        belongs = record.kind == Kind.CONTROLLER_MODE and self.handle_of[record.target] in self.resetting
         return record_words(record) + (OF_A_RESET if belongs else "")
 
     def stall_meanings(self, event: EventLine) -> List[str]:
         """What an accepted stall says, and what comes of it."""
-        self.handles.add(event.field.value[0])
+        self.resetting.add(event.field.value[0])
         return [record_words(record) for record in event.records] + [STALL_OUTLOOK]
+
+    def bus_off_meanings(self, event: EventLine) -> List[str]:
+        """What a bus-off that is told says, and whether it is taken for a fault that was reported before."""
+        handle = self.handle_of[event.field.value[0]]
+        again = [SAME_FAULT] if handle in self.restarting else []
+        self.restarting.add(handle)
+        return [self.record_words(record) for record in event.records] + again
 
 
 def refusal_meanings(event: EventLine) -> List[str]:
@@ -89,7 +102,7 @@ def refusal_meanings(event: EventLine) -> List[str]:
     return [refusal_words(event.answer, CALL_REFUSALS[event.answer])] + ([] if advice is None else [advice])
 
 
-def event_meanings(resets: Resets, event: EventLine) -> List[str]:
+def event_meanings(troubled: Troubled, event: EventLine) -> List[str]:
     """What the answer to an event, and what follows it, say."""
     if event.answer != ACCEPTED:
         return refusal_meanings(event)
@@ -98,9 +111,11 @@ def event_meanings(resets: Resets, event: EventLine) -> List[str]:
     if event.field.tag == Tag.REQUEST:
         return ["accepted: stored, and the next tick looks at it"]
     if event.field.tag == Tag.STALL:
-        return resets.stall_meanings(event)
+        return troubled.stall_meanings(event)
+    if event.field.tag == Tag.BUS_OFF and event.records:
+        return troubled.bus_off_meanings(event)
     if event.field.tag in EVENTS_WITH_RECORDS:
-        return [resets.record_words(record) for record in event.records] or ["accepted: nothing is handed out"]
+        return [troubled.record_words(record) for record in event.records] or ["accepted: nothing is handed out"]
     return ["taken"]
 
 
@@ -120,8 +135,8 @@ def rows_of(recording: Recording, output: Output) -> List[Row]:
     if output.config is None:
         return [Row(TOO_LONG, f"recording of {recording.length} bytes", [f"more than {LONGEST_RECORDING} bytes: nothing is run"])]
     rows = [Row(output.config.line, f"sheet of {recording.sheet_bytes} bytes", config_meanings(recording, output.config))]
-    resets = Resets(recording)
-    rows += [Row(event.line, event_words(event.field), event_meanings(resets, event)) for event in output.events]
+    troubled = Troubled(recording)
+    rows += [Row(event.line, event_words(event.field), event_meanings(troubled, event)) for event in output.events]
     return rows + [Row(line, shown(field), [stop_words(field)]) for field, line in zip(recording.stop, output.stop)]
 
 

@@ -39,6 +39,7 @@ class RecordWords(NamedTuple):
 
 
 TX_OFFLINE = 1
+NO_COMMUNICATION = 0
 NO_NETWORK = 0x38
 
 CALL_REFUSALS = {
@@ -71,6 +72,8 @@ ADVICE = {
 }
 # X3: what a stall brings.
 STALL_OUTLOOK = "the next tick asks all its controllers to stop, a later one to start"
+# B2: what a bus-off says in step 6.
+SAME_FAULT = "taken for the same fault, which is counted already"
 # T29, T30: behind a request that belongs to the reset.
 OF_A_RESET = ", for the reset"
 SHEET_REFUSALS = {

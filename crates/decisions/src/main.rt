@@ -76,7 +76,7 @@ fn next_step(step: Step, situation: u8) -> Step {
     let refused = situation / OUTFITS / TESTS % TESTS == 0;
     let done = situation / OUTFITS / TESTS / TESTS % TESTS == 0;
     let wanted = mode_of(situation / OUTFITS / TESTS / TESTS / TESTS);
-    let decided = steps::decide(step, wanted, done, refused, reached, outfit);
+    let decided = deciding::decide(step, wanted, done, refused, reached, outfit);
     steps::step_after(decided, step, is_partial(outfit))
 }
 

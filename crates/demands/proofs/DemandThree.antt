@@ -1,6 +1,6 @@
--- Demand 3, for every network of every started manager, over every history of calls since the start.
-use Rattle.lists.proofs.Basics.{ℕ, _<_, _≤_, arith, eq-eqb, le-ltb, _≡_, refl, sym, ap, subst, _∙_, [], _∷_, _++_, true}
-use Rattle.lists.proofs.Basics.{false, eqb, ltb, length}
+-- Demand 3, and which bus-offs count, for every network of every started manager, over every history of calls since the start.
+use Rattle.lists.proofs.Basics.{ℕ, suc, _<_, _≤_, min, arith, eq-eqb, le-ltb, _≡_, refl, sym, ap, subst, _∙_, [], _∷_, _++_, true}
+use Rattle.lists.proofs.Basics.{false, cond, eqb, ltb, length}
 use Rattle.records.specs.Records.{modeNumber}
 use Rattle.settings.specs.declared.Network.{Network}
 use Rattle.settings.specs.declared.Id.{Id}
@@ -14,15 +14,18 @@ use Rattle.slots.specs.Manager.{networksOf, networkAt, stateAt, tickNeeds}
 use Rattle.slots.specs.Calls.{Call, poll, tick, bySlot, polled, gateOf, allTicked, outcome}
 use Rattle.calls.specs.Histories.{isAccepted, Entry, entryOf, History, Since, begun, goes}
 use Rattle.manager_theorems.proofs.Counts.{tick-needs-paper}
-use Rattle.network_demands.specs.Words.{told}
+use Rattle.steps.specs.Steps.{isRestarting}
+use Rattle.network_demands.specs.Words.{told, counts}
 use Rattle.network_demands.specs.Own.{Ran}
 use Rattle.network_demands.proofs.Follows.{told-follows}
+use Rattle.network_demands.proofs.Counted.{restarting-means, count-follows, bus-off-raises}
+use Rattle.network_demands.proofs.OneFault.{counted-once}
 use Rattle.network_demands.proofs.Told.{told-exactly, told-no, first-sentence}
 use Rattle.network_demands.proofs.Second.{late-answers, late-after-stall, second-sentence}
 use Rattle.network_demands.proofs.Third.{third-sentence, said-from}
 use Rattle.network_demands.proofs.ThirdTick.{on-the-third-tick, said-from-the-third}
 use Rattle.demands.specs.View.{viewOf, viewsOf}
-use Rattle.demands.specs.Demands.{Begun, Demand3}
+use Rattle.demands.specs.Demands.{Begun, Demand3, Counting}
 use Rattle.demands.proofs.Parts.{own-slot}
 use Rattle.demands.proofs.Follow.{once, in-use, same-network, same-needs, follow, sound, ran-since, in-range, distinct}
 
@@ -94,3 +97,21 @@ module _ (m₀ : Manager) (b₀ : Begun m₀) (i : ℕ) (h₀ : i < length (netw
       let slot = own-slot m (f .sound) (once m₀ m h f) (f .started) i (in-use m₀ m h f i h₀) (Id.OfNetwork (n .handle)) own in
       ap (λ (x : Slot). bySlot m x (λ j. polled m (stateAt m j .told)) .mode) slot
       ∙ ap (λ (t : State). modeNumber (t .told)) (sym (f .state i h₀)) ∙ told-follows n (viewsOf n h) (f .ran i h₀)
+
+  -- which bus-offs count, by the record in the slot
+  pub counting : Counting m₀ i
+  counting = record {
+    restarting = λ m h s.
+        let f = follow m₀ m h b₀ s in
+        ap (λ (t : State). isRestarting (t .step)) (sym (f .state i h₀)) ∙ sym (restarting-means n range (viewsOf n h) (f .ran i h₀));
+    count = λ m h s.
+        let f = follow m₀ m h b₀ s in
+        ap (λ (t : State). t .count) (sym (f .state i h₀)) ∙ count-follows n range (viewsOf n h) (f .ran i h₀);
+    raises = λ m h s c fell.
+        let e = viewOf n (entryOf m c) in
+        let f = follow m₀ m h b₀ s in
+        let g = follow m₀ (outcome m c .manager) (entryOf m c ∷ h) b₀ (goes m h c s) in
+        ap (λ (t : State). t .count) (sym (g .state i h₀)) ∙ bus-off-raises n range e (viewsOf n h) (g .ran i h₀) fell
+        ∙ ap (λ (t : State). cond (counts n e (viewsOf n h)) (min (suc (t .count)) 255) (t .count)) (f .state i h₀);
+    one-fault = λ m s b h r. counted-once n range (viewsOf n s) (viewOf n b) (viewsOf n h) (split m s b h r);
+  }

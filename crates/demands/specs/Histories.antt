@@ -1,6 +1,6 @@
 -- Histories of the product in which the premises of demand 3 hold, all of them, by computation on the definitions: told full after the start, after a
 -- short and after a long delay, with refused ticks in between, with a late answer, with two controllers, with a transceiver and partial networking,
--- of two networks, and after a stall.
+-- of two networks, after a stall, and after faults that two chips report.
 use Prim.Native.Nat.{ℕ, _+_}
 use mathlib.Core.Path.{_≡_, refl}
 use mathlib.Core.List.{List, [], _∷_, _++_}
@@ -15,8 +15,8 @@ use Rattle.slots.specs.Calls.{Call, read, start, request, busOff, stall, answer
 use Rattle.slots.specs.Calls.{run}
 use Rattle.calls.specs.Histories.{Entry, entryOf, History, Since, goes}
 use Rattle.calls.specs.Computed.{computedOutcome}
-use Rattle.network_demands.specs.Words.{since, tally, ticked, toldBy, told, wanted, fell, shut, fellUp, falls, delayAt, waiting, fullAtTicks}
-use Rattle.network_demands.specs.Words.{promptly, saysNo, runs, firstRunning}
+use Rattle.network_demands.specs.Words.{since, tally, ticked, toldBy, told, wanted, fell, shut, fellUp, restarting, falls, delayAt, waiting}
+use Rattle.network_demands.specs.Words.{fullAtTicks, promptly, saysNo, runs, firstRunning}
 use Rattle.demands.specs.View.{keep, viewOf, viewsOf}
 use Rattle.demands.specs.BenchCases.{down, up}
 
@@ -27,7 +27,7 @@ historyOf m (c ∷ cs) h = historyOf (outcome m c .manager) cs (entryOf m c ∷ 
 
 -- with all open that it takes to compute one, and what the words of demand 3 say of it
 unfoldable computedHistory : Manager → List Call → History → History
-unfolding computedOutcome historyOf keep targetsOf ownRecord since tally toldBy told wanted falls runs firstRunning waiting fullAtTicks promptly
+unfolding computedOutcome historyOf keep targetsOf ownRecord since tally toldBy told wanted restarting falls runs firstRunning waiting fullAtTicks promptly
 computedHistory m cs h = historyOf m cs h
 
 -- it is one of the calls since the start
@@ -240,3 +240,33 @@ short-delay-after-a-stall = refl
 pub bus-off-in-a-reset : summaryBy benchSheet 0 (step5 ++ (stall 7 3 ∷ reset)) (busOff 3 9) (restarted ++ (tick 9 ∷ tick 9 ∷ [])) ≡ goodSummary 2 4 4
 unfolding computedHistory
 bus-off-in-a-reset = refl
+
+-- ---- faults that both chips of a network report: controllers 1 and 2 of `partialSheet`, whose threshold is 1
+-- the tick that asks both to start, their oks, and the tick that enters step 7
+abbrev bothRestarted : List Call
+bothRestarted = (tick 12 ∷ both 1) ++ (tick 12 ∷ [])
+
+-- one fault: the second report is not counted, and the delay is the short one, where a box that counts every report takes the long one
+pub short-delay-after-one-fault :
+    summaryBy partialSheet 0 (downAndUp ++ (busOff 1 9 ∷ [])) (busOff 2 9) (bothRestarted ++ (tick 12 ∷ tick 12 ∷ [])) ≡ goodSummary 2 4 4
+unfolding computedHistory
+short-delay-after-one-fault = refl
+
+-- the second report comes late, when both were asked to start and the first has answered: the recovery begins anew, with the short delay
+pub short-delay-after-a-late-report : summaryBy partialSheet 0 (downAndUp ++ (busOff 1 9 ∷ tick 12 ∷ answer 1 1 1 ∷ [])) (busOff 2 9)
+    (bothRestarted ++ (tick 12 ∷ tick 12 ∷ [])) ≡ goodSummary 2 4 4
+unfolding computedHistory
+short-delay-after-a-late-report = refl
+
+-- a second fault, in step 7: the long delay, and full on the seventh tick after its second report
+pub long-delay-after-two-faults : summaryBy partialSheet 0 (downAndUp ++ (busOff 1 9 ∷ busOff 2 9 ∷ (bothRestarted ++ (busOff 2 9 ∷ [])))) (busOff 1 9)
+    (bothRestarted ++ (tick 12 ∷ tick 12 ∷ tick 12 ∷ tick 12 ∷ tick 12 ∷ [])) ≡ goodSummary 2 7 7
+unfolding computedHistory
+long-delay-after-two-faults = refl
+
+-- a shutdown in step 6, and up again: a bus-off then is a second fault, though nobody went TX offline since the first
+pub long-delay-after-a-shutdown :
+    summaryBy benchSheet 0 (step5 ++ (busOff 3 9 ∷ request 7 0 ∷ tick 9 ∷ answer 3 0 1 ∷ tick 9 ∷ answer 3 2 1 ∷ tick 9 ∷ up)) (busOff 3 9)
+    (restarted ++ (tick 9 ∷ tick 9 ∷ tick 9 ∷ tick 9 ∷ tick 9 ∷ [])) ≡ goodSummary 2 7 7
+unfolding computedHistory
+long-delay-after-a-shutdown = refl

@@ -137,6 +137,11 @@ module _ where
   unfolding computedLife
   bus-off-taken-going-down b = true≢false (b .accepted refl 3 refl)
 
+  -- `records`: a second bus-off, while the network restarts, hands out nothing
+  pub second-report-hidden : BusOffs network (taken aBusOff []) (lives network restarting) → ⊥
+  unfolding computedLife
+  second-report-hidden b = let z : _≡_ {A = ℕ} 0 3 = ap length (b .records refl) in omega arith
+
   -- `records`: a bus-off after a stall hands out nothing
   pub bus-off-hidden-by-a-stall : BusOffs network (taken aBusOff []) (lives network resetting) → ⊥
   unfolding computedLife
@@ -355,6 +360,16 @@ module _ where
   pub wait-noted-as-silent : Ticks network (ticks (row 3 3 1 ∷ row 7 7 1 ∷ [])) (lives network (ok 1 ∷ restarting)) → ⊥
   unfolding computedLife
   wait-noted-as-silent t = true≢false (t .notes-silent)
+
+  -- `enters-silent`: while the network restarts it says silent in the place of asking again, so that a second bus-off would count
+  pub silent-while-restarting : Ticks network (ticks (row 3 3 1 ∷ row 6 7 1 ∷ row 7 7 1 ∷ [])) (lives network (aRequest 1 ∷ restarting)) → ⊥
+  unfolding computedLife
+  silent-while-restarting t = true≢false (t .enters-silent refl .settled)
+
+  -- `enters-silent`: it enters silent where full is wanted
+  pub silent-where-full-is-wanted : Ticks network (ticks (row 3 3 1 ∷ row 6 7 1 ∷ row 7 7 1 ∷ [])) (lives network full) → ⊥
+  unfolding computedLife
+  silent-where-full-is-wanted t = let z : _≡_ {A = ℕ} 2 1 = t .enters-silent refl .called in omega arith
 
   -- `offline`: silent is told, and the controller stays online
   pub online-in-silent : Ticks network (ticks (row 6 7 1 ∷ row 7 7 1 ∷ [])) (lives network (aRequest 1 ∷ full)) → ⊥

@@ -14,9 +14,9 @@ use Rattle.network.specs.Parts.{Sight, aTick, aBusOff, aStall, anAnswer, aReque
 use Rattle.handing.specs.Handing.{targetsOf, ownRecord}
 use Rattle.slots.specs.Calls.{Call, request, answer, tick}
 use Rattle.calls.specs.Histories.{Entry, History}
-use Rattle.network_demands.specs.Words.{Seen, OwnHistory, since, tally, setback, toldBy, told, wanted, wantedAtTick, falls, owed, runs, firstRunning}
-use Rattle.network_demands.specs.Words.{waiting, fullAtTicks, promptly, Told, ToldNo, Answered, Delayed, LateAnswers, OnJustThatTick, SaidFrom}
-use Rattle.network_demands.specs.Words.{LateAfterStall, OnTheThirdTick, SaidFromTheThird}
+use Rattle.network_demands.specs.Words.{Seen, OwnHistory, since, tally, setback, toldBy, told, wanted, wantedAtTick, restarting, falls, owed, runs}
+use Rattle.network_demands.specs.Words.{firstRunning, waiting, fullAtTicks, promptly, CountedOnce, Told, ToldNo, Answered, Delayed, LateAnswers}
+use Rattle.network_demands.specs.Words.{OnJustThatTick, SaidFrom, LateAfterStall, OnTheThirdTick, SaidFromTheThird}
 use Rattle.demands.specs.View.{keep, viewsOf}
 use Rattle.demands.specs.Demands.{TickTaken}
 
@@ -107,7 +107,7 @@ cameUp = tellsFull ∷ answers ∷ asks ∷ wants 2 ∷ []
 
 -- the mode last told, with all open that it takes to compute what the words say
 unfoldable pub computedWords : Network → OwnHistory → ℕ
-unfolding any every since tally toldBy told wanted wantedAtTick falls owed runs firstRunning waiting fullAtTicks promptly
+unfolding any every since tally toldBy told wanted wantedAtTick restarting falls owed runs firstRunning waiting fullAtTicks promptly
 computedWords n h = told n h
 
 -- ---- exactly when full is told
@@ -221,6 +221,23 @@ module _ where
   unfolding computedWords
   delay-cancelled d = let z : 7 ≤ 2 = d refl refl refl refl in omega arith
 
+  -- a bus-off in step 7, when the controller runs again, is taken for the same fault: the short delay, where two exceed the threshold
+  pub fault-in-the-wait-not-counted : Delayed network (tellsFull ∷ ticks [] ∷ waits ∷ answers ∷ asks ∷ []) busOff
+      (waits ∷ answers ∷ asks ∷ busOff ∷ cameUp) → ⊥
+  unfolding computedWords
+  fault-in-the-wait-not-counted d = let z : 7 ≤ 4 = d refl refl refl refl in omega arith
+
+  -- that it was restarting is remembered over a shutdown: a bus-off when it is up again is taken for the same fault
+  pub restarting-over-a-shutdown : Delayed network (tellsFull ∷ ticks [] ∷ waits ∷ answers ∷ asks ∷ []) busOff
+      (cameUp ++ (ticks (handed 7 7 0 ∷ handed 1 3 0 ∷ []) ∷ wants 0 ∷ busOff ∷ cameUp)) → ⊥
+  unfolding computedWords
+  restarting-over-a-shutdown d = let z : 7 ≤ 4 = d refl refl refl refl in omega arith
+
+  -- a second bus-off in step 6, after the request to start, does not begin the recovery anew: full on the third tick after it
+  pub recovery-not-begun-anew : Delayed network (tellsFull ∷ waits ∷ answers ∷ asks ∷ []) busOff (asks ∷ busOff ∷ cameUp) → ⊥
+  unfolding computedWords
+  recovery-not-begun-anew d = let z : 4 ≤ 3 = d refl refl refl refl in omega arith
+
   -- where the answer is late it takes the delay from the bus-off on: all run before the fourth tick, and full is told on the fifth
   pub delay-from-the-bus-off : LateAnswers network (tellsFull ∷ waits ∷ answers ∷ asks ∷ asks ∷ asks ∷ []) busOff cameUp → ⊥
   unfolding computedWords
@@ -230,6 +247,19 @@ module _ where
   pub idles-after-a-late-answer : LateAnswers network (ticks [] ∷ ticks [] ∷ waits ∷ answers ∷ asks ∷ asks ∷ []) busOff cameUp → ⊥
   unfolding computedWords
   idles-after-a-late-answer late = false≢true (late refl refl refl refl .0)
+
+-- ---- one fault is counted once
+module _ where
+  -- TX offline goes out with the bus-off itself, so that the second report is taken for a second fault
+  pub offline-with-the-bus-off :
+      CountedOnce network (busOff ∷ []) (taken aBusOff (handed 8 7 1 ∷ handed 6 7 1 ∷ handed 7 7 3 ∷ handed 3 3 1 ∷ [])) cameUp → ⊥
+  unfolding computedWords
+  offline-with-the-bus-off o = let z : _≡_ {A = ℕ} 2 1 = o refl refl refl in omega arith
+
+  -- passed is said while the controllers are started again, so that the fault is not counted at all
+  pub passed-while-restarting : CountedOnce network (ticks (handed 8 7 0 ∷ []) ∷ asks ∷ []) busOff cameUp → ⊥
+  unfolding computedWords
+  passed-while-restarting o = let z : _≡_ {A = ℕ} 0 1 = o refl refl refl in omega arith
 
 -- ---- the third sentence
 -- three ticks after a bus-off, and the fourth
@@ -244,6 +274,12 @@ module _ where
   pub not-told : SaidFrom network (Four (ticks [])) busOff cameUp → ⊥
   unfolding computedWords
   not-told said =
+      let z : _≡_ {A = ℕ} 1 2 = said refl (record { full = refl; prompt = refl; only-ok = refl; calm = refl; unstalled = refl }) in omega arith
+
+  -- it counts every bus-off: a second one in step 6 makes two, and on the fourth tick after it full is not told
+  pub second-report-counted : SaidFrom network (Four (ticks [])) busOff (busOff ∷ cameUp) → ⊥
+  unfolding computedWords
+  second-report-counted said =
       let z : _≡_ {A = ℕ} 1 2 = said refl (record { full = refl; prompt = refl; only-ok = refl; calm = refl; unstalled = refl }) in omega arith
 
   -- the same by what the fourth tick hands out

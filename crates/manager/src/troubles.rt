@@ -20,7 +20,7 @@ fn strike_at(manager: Manager, at: usize, trouble: Trouble, out: &mut [u8]) -> O
 {
     let network = manager.network_at(at);
     let state = manager.state_at(at);
-    let struck = network::strike(network, state, trouble, out);
+    let struck = network_troubles::strike(network, state, trouble, out);
     let part = struck.part;
     settle(manager, at, part, struck.count)
 }

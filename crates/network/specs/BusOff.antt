@@ -10,7 +10,7 @@ use Rattle.settings.specs.declared.Network.{Network}
 use Rattle.handing.specs.Handing.{recovery, reset}
 use Rattle.steps.specs.declared.Step.{Step}
 use Rattle.steps.specs.declared.Step.the-variants.{Restarting, ResetStopped}
-use Rattle.steps.specs.Steps.{asksFor, isUp, isFullStep, asksToStart}
+use Rattle.steps.specs.Steps.{asksFor, isUp, isFullStep, isRestarting, asksToStart}
 use Rattle.network.specs.declared.Hit.{Hit}
 use Rattle.network.specs.declared.Trouble.{Trouble}
 use Rattle.network.specs.declared.State.{State}
@@ -33,17 +33,17 @@ hitBy Trouble.Stall step = stallOf step
 abbrev pub raised : ℕ → ℕ
 raised count = cond (ltb count 255) (count + 1) count
 
--- B2: the count after a bus-off that was taken in an up step: each counts
+-- B2: the count after a bus-off that was taken in an up step: in step 6 it stays, since the fault that led there was counted; else one more
 abbrev pub countedIn : Step → ℕ → ℕ
-countedIn step count = raised count
+countedIn step count = cond (isRestarting step) count (raised count)
 
 -- B4, B5, X3: the step has not asked, and the answers are forgotten
 unfoldable pub madeAnew : State → Step → Mode → ℕ → State
 madeAnew s step told count =
     record { step = step; wanted = s .wanted; told = told; count = count; asked = false; answers = blankAnswers; reported = false }
 
--- B2 to B5, X2 to X4: a recovery is step 6 with silent told and one bus-off more; in step 3 the step, the told mode and the count stay; a reset is
--- step 15 with silent told, and the count stays; not taken, all stays
+-- B2 to B5, X2 to X4: a recovery is step 6 with silent told and the bus-off counted; in step 3 the step, the told mode and the count stay; a reset
+-- is step 15 with silent told, and the count stays; not taken, all stays
 unfoldable pub afterHit : State → Hit → State
 afterHit s Hit.Recover = madeAnew s Restarting Mode.Silent (countedIn (s .step) (s .count))
 afterHit s Hit.Restart = madeAnew s (s .step) (s .told) (s .count)

@@ -1,13 +1,11 @@
-// One network: its record, and what each call that names it does to it.
+// One network: its record, and what a request, an answer and a report do to it.
 mod answers;
-mod bus_off;
 mod parts;
 
 ghost use mathlib.Core.Path.{_≡_};
 ghost use Rattle.network.specs.State.{blankAnswers, started, wants};
 ghost use Rattle.network.specs.Replies.{refusalNumber};
 ghost use Rattle.network.specs.Parts.{taken, declined};
-pub use bus_off::strike;
 pub use parts::answer_part;
 pub use parts::report_part;
 pub use parts::request_part;

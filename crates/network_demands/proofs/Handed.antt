@@ -1,7 +1,7 @@
 -- What a move hands out, once for every test of records: by what the test says of requests, of PDU modes and of records with the handle. So read the
 -- words of demand 3 and of the promises the records of a tick.
 use Rattle.lists.proofs.Basics.{ℕ, _<_, arith, eqb-true, eqb-false, eq-eqb, ne-eqb, _≡_, refl, sym, ap, _∙_, List, [], _∷_, _++_, map, Bool, true}
-use Rattle.lists.proofs.Basics.{false, not, _&&_, _||_, cond, or-false, and-false, eqb}
+use Rattle.lists.proofs.Basics.{false, not, _&&_, _||_, cond, or-false, and-false, eqb, length}
 use mathlib.Core.Bool.{and-true}
 use Rattle.lists.specs.Lists.{any}
 use Rattle.lists.proofs.Any.{any-append}
@@ -46,6 +46,13 @@ pub none-of-each : (p : Record → Bool) (f : ℕ → Record) → ((x : ℕ) →
 unfolding any
 none-of-each p f h [] = refl
 none-of-each p f h (x ∷ l) = rw (h x) (none-of-each p f h l)
+
+-- where each is tested alike and there is one, some passes the test exactly if each does
+pub each-alike : (p : Record → Bool) (f : ℕ → Record) (b : Bool) → ((x : ℕ) → p (f x) ≡ b) → (l : List ℕ) → 0 < length l → any p (map f l) ≡ b
+unfolding any
+each-alike p f true h [] some = absurd (omega arith)
+each-alike p f true h (x ∷ l) some = rw (h x) refl
+each-alike p f false h l some = none-of-each p f h l
 
 -- where no such record is of kind 6, they tell nothing
 each-tells-nothing : (n : Network) (f : ℕ → Record) →
@@ -255,20 +262,28 @@ module _ (n : Network) where
   move-tells step told EnterNoCommunication = rw (eqb-same (n .handle)) refl
   move-tells step told (Enter next) = requests-tell-nothing (asksFor next) (modeNumber told)
 
-  -- ---- kind 3, for a controller of the network
+  -- ---- kind 3
+  -- a test that only records of kind 3 with an argument pass
+  pdus-by : (p : Record → Bool) (argument : ℕ) → ((ask : Ask) → any p (requests ask n) ≡ false)
+      → ((pdu : PduMode) → any p (map (roundRecord (Round.Pdu pdu)) (controllersOf n)) ≡ eqb argument (pduNumber pdu))
+      → ((mode : Mode) → p (tells (n .handle) mode) ≡ false) → ((notice : Notice) → p (notes (n .handle) notice) ≡ false)
+      → p (reports (n .handle) EventStatus.Passed) ≡ false → (step : Step) (told : Mode) (m : Move)
+      → any p (moveRecords n step told m) ≡ handsBy (eqb argument 0) (eqb argument 1) false (eqb argument 1) false false m
+  pdus-by p argument asks pdus tells notes passed step told m =
+      let says : PduMode → Bool = λ pdu. eqb argument (pduNumber pdu) in
+      move-given n p (ofNotices says (λ mode. false) (λ notice. false) false)
+      (record { asks = asks; pdus = pdus; tells = tells; notes = notes; passed = passed }) step told m
+      ∙ notices-by says _ _ false (n .partial) step told m
+      ∙ rw (nothing-lowered told, or-false (eqb argument 0), or-false (eqb argument 1)) refl
+
+  -- for a controller of the network
   pub move-pdus : (c argument : ℕ) → member c (controllersOf n) ≡ true → (step : Step) (told : Mode) (m : Move)
       → any (is 3 c argument) (moveRecords n step told m)
       ≡ handsBy (eqb argument 0) (eqb argument 1) false (eqb argument 1) false false m
-  move-pdus c argument own step told m =
-      let pdus : PduMode → Bool = λ pdu. eqb argument (pduNumber pdu) in
-      move-given n (is 3 c argument) (ofNotices pdus (λ mode. false) (λ notice. false) false) (record {
-        asks = requests-none n (is 3 c argument) (λ id mode. refl) (λ id mode. refl) (λ id. refl) (λ id. refl);
-        pdus = λ pdu. names-each (is 3 c argument) (roundRecord (Round.Pdu pdu)) (pdus pdu) c (λ x. refl) (controllersOf n) ∙ rw own (and-true _);
-        tells = λ mode. refl;
-        notes = λ notice. refl;
-        passed = refl;
-      }) step told m ∙ notices-by pdus _ _ false (n .partial) step told m
-      ∙ rw (nothing-lowered told, or-false (eqb argument 0), or-false (eqb argument 1)) refl
+  move-pdus c argument own =
+      pdus-by (is 3 c argument) argument (requests-none n (is 3 c argument) (λ id mode. refl) (λ id mode. refl) (λ id. refl) (λ id. refl))
+      (λ pdu. names-each (is 3 c argument) (roundRecord (Round.Pdu pdu)) (eqb argument (pduNumber pdu)) c (λ x. refl) (controllersOf n)
+      ∙ rw own (and-true _)) (λ mode. refl) (λ notice. refl) refl
 
   -- online goes to it exactly where full is entered
   pub move-goes-online : (c : ℕ) → member c (controllersOf n) ≡ true → (step : Step) (told : Mode) (m : Move)
@@ -290,11 +305,23 @@ module _ (n : Network) where
     passed = refl;
   })
 
+  -- the moves that hand out TX offline
+  offline-moves : (m : Move) → handsBy false true false true false false m ≡ isEnterSilent m || isWait m
+  offline-moves m = sym (both-by _||_ refl false true false false false false false false false true false false m)
+
   -- TX offline where silent is entered and where the wait begins
   pub move-goes-offline : (c : ℕ) → member c (controllersOf n) ≡ true → (step : Step) (told : Mode) (m : Move)
       → any (is 3 c 1) (moveRecords n step told m) ≡ isEnterSilent m || isWait m
-  move-goes-offline c own step told m =
-      move-pdus c 1 own step told m ∙ sym (both-by _||_ refl false true false false false false false false false true false false m)
+  move-goes-offline c own step told m = move-pdus c 1 own step told m ∙ offline-moves m
+
+  -- so some controller does, where the network has one
+  pub move-quiets : 0 < length (controllersOf n) → (step : Step) (told : Mode) (m : Move)
+      → any (λ (r : Record). eqb 3 (r .kind) && eqb 1 (r .argument)) (moveRecords n step told m) ≡ isEnterSilent m || isWait m
+  move-quiets some step told m =
+      let p : Record → Bool = λ r. eqb 3 (r .kind) && eqb 1 (r .argument) in
+      pdus-by p 1 (requests-none n p (λ id mode. refl) (λ id mode. refl) (λ id. refl) (λ id. refl))
+      (λ pdu. each-alike p (roundRecord (Round.Pdu pdu)) (eqb 1 (pduNumber pdu)) (λ x. refl) (controllersOf n) some)
+      (λ mode. refl) (λ notice. refl) refl step told m ∙ offline-moves m
 
   -- ---- kinds 6 to 8, with the handle
   module _ (kind argument : ℕ) (h : 5 < kind) where

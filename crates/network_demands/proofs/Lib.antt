@@ -13,6 +13,8 @@ pub mod ThirdTick
 pub mod Arrows
 pub mod Given
 pub mod Standing
+pub mod Counted
+pub mod OneFault
 pub mod Turns
 pub mod Checked
 pub mod Readied

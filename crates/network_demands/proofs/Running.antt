@@ -4,10 +4,10 @@ use Rattle.lists.proofs.Basics.{ltb, length, getD}
 use Rattle.lists.specs.Lists.{any}
 use Rattle.lists.proofs.Tests.{split}
 use Rattle.lists.proofs.Any.{any-append-right}
-use Rattle.lists.proofs.Parts.{padded-count}
 use Rattle.settings.specs.declared.Network.{Network}
 use Rattle.settings.specs.Settings.{controllersOf, member}
 use Rattle.settings.specs.Good.{InRange}
+use Rattle.settings.proofs.Good.{some-controller}
 use Rattle.network_demands.specs.Words.{hands, Seen, OwnHistory, since, tally, isAnswer, ticked, stalled, setback, fellUp, delayAt, owed}
 use Rattle.network_demands.specs.Words.{accepted, afterStall, askedToStart, runs, allRun, firstRunning}
 use Rattle.network_demands.proofs.Handed.{eqb-same}
@@ -65,12 +65,6 @@ module _ (n : Network) where
   unfolding any
   none-run g s a = by-test (allRun n s) refl
     where
-      some : 0 < length (controllersOf n)
-      some =
-          let used = padded-count 4 0 (n .controllers) (n .count) (g .few-controllers) (g .blank-slots) in
-          let f = g .some-controller in
-          omega arith
-
       by-list : (l : List ℕ) → 0 < length l → member (getD l 0 0) l ≡ true
       by-list [] f = absurd (omega arith)
       by-list (x ∷ l) f = rw (eqb-same x) refl
@@ -78,6 +72,6 @@ module _ (n : Network) where
       by-test : (b : Bool) → allRun n s ≡ b → b ≡ false
       by-test true e =
           let c = getD (controllersOf n) 0 0 in
-          let m = by-list (controllersOf n) some in
+          let m = by-list (controllersOf n) (some-controller n g) in
           absurd (false≢true (sym (asked-first c s (a c m)) ∙ every-member (λ (c : ℕ). runs c s) c (controllersOf n) e m))
       by-test false e = refl

@@ -4,10 +4,11 @@ use Rattle.lists.proofs.Basics.{append-assoc, Bool, true, false, not, _||_, or-
 use Rattle.lists.proofs.Basics.{getD-set-same, getD-set-other}
 use Rattle.lists.specs.Lists.{any, every, first}
 use Rattle.lists.proofs.Any.{any-append-left, any-append-right, every-cons, every-false, every-at, or-second, first-below, first-passes}
-use Rattle.lists.proofs.Parts.{padded-length, padded-count}
+use Rattle.lists.proofs.Parts.{padded-length}
 use Rattle.settings.specs.declared.Network.{Network}
 use Rattle.settings.specs.Settings.{controllersOf, member}
 use Rattle.settings.specs.Good.{Fresh, Distinct, InRange}
+use Rattle.settings.proofs.Good.{controllers-counted}
 use Rattle.network.specs.declared.LastAnswer.{LastAnswer}
 use Rattle.network.specs.declared.Heard.{Heard}
 use Rattle.network.specs.declared.State.{State}
@@ -90,7 +91,7 @@ same-slot n c d p q e =
 pub slot-in-use : (n : Network) (s : State) (c : ℕ) →
     InRange n → Kept n s → member c (controllersOf n) ≡ true → (seatOf n c < n .count) × (seatOf n c < length (s .answers))
 slot-in-use n s c g k m =
-    let a : length (controllersOf n) ≡ n .count = padded-count 4 0 (n .controllers) (n .count) (g .few-controllers) (g .blank-slots) in
+    let a = controllers-counted n g in
     let b : length (s .answers) ≡ 4 = padded-length 4 (heard LastAnswer.Pending) (s .answers) (n .count) (g .few-controllers) (k .slots) in
     let f = first-below (λ (x : ℕ). eqb x c) (controllersOf n) m in
     let few = g .few-controllers in
@@ -144,8 +145,5 @@ all-okay n s g f k =
     both-ways (every isOkay (heardOf n s)) (every (saidOkay n (s .answers)) (controllersOf n))
     (λ e. each-member (saidOkay n (s .answers)) (controllersOf n) (λ c m. let u = slot-in-use n s c g k m in
     every-at isOkay (s .answers) (seatOf n c) (n .count) (heard LastAnswer.Pending) e (u .0) (u .1)))
-    (λ e. ap (λ (i : ℕ). every isOkay (take i (s .answers))) (sym used)
+    (λ e. ap (λ (i : ℕ). every isOkay (take i (s .answers))) (sym (controllers-counted n g))
     ∙ each-okay [] (controllersOf n) (s .answers) f (λ c m. every-member (saidOkay n (s .answers)) c (controllersOf n) e m))
-  where
-    used : length (controllersOf n) ≡ n .count
-    used = padded-count 4 0 (n .controllers) (n .count) (g .few-controllers) (g .blank-slots)

@@ -26,7 +26,7 @@ use Rattle.network.specs.BusOff.{madeAnew, afterHit}
 use Rattle.network.specs.Parts.{Sight, aTick, aBusOff, aStall}
 use Rattle.network_theorems.specs.Kept.{Kept}
 use Rattle.network_theorems.proofs.Moves.{full-quiet}
-use Rattle.network_demands.specs.Words.{hands, Seen, OwnHistory, since, isTick, shut, wanted, up, rested, calledUp, on, awaited, askedToStart}
+use Rattle.network_demands.specs.Words.{hands, Seen, OwnHistory, since, isTick, shut, wanted, rested, calledUp, on, awaited, askedToStart}
 use Rattle.network_demands.specs.Own.{finished, decides, reaches, played, stateOf, Fits, Ran}
 use Rattle.network_demands.proofs.Views.{either-way, seen, by-part}
 use Rattle.network_demands.proofs.Handed.{isGoDown, isEnd, move-shuts, move-says-no, given, nothing-lowered}

@@ -1,8 +1,7 @@
 -- The promises on ticks, for one network: what a tick hands out, when, and that else only a bus-off and a stall hand out anything.
-use Rattle.lists.proofs.Basics.{ℕ, _+_, _≤_, _<_, arith, eq-eqb, _≡_, refl, sym, ap, _∙_, [], _∷_, _++_, Bool, true, false, _&&_, cond, false≢true}
+use Rattle.lists.proofs.Basics.{ℕ, _+_, _≤_, arith, eq-eqb, _≡_, refl, sym, ap, _∙_, [], _∷_, _++_, Bool, true, false, _&&_, cond, false≢true}
 use Rattle.lists.proofs.Basics.{true≢false, eqb, leb, ltb, length}
 use Rattle.lists.specs.Lists.{any}
-use Rattle.lists.proofs.Parts.{padded-count}
 use Rattle.records.specs.declared.ControllerMode.{ControllerMode}
 use Rattle.records.specs.declared.TransceiverMode.{TransceiverMode}
 use Rattle.records.specs.declared.PduMode.{PduMode}
@@ -13,6 +12,7 @@ use Rattle.records.specs.Records.{controllerNumber, transceiverNumber, pduNumbe
 use Rattle.settings.specs.declared.Network.{Network}
 use Rattle.settings.specs.Settings.{controllersOf}
 use Rattle.settings.specs.Good.{Distinct, InRange}
+use Rattle.settings.proofs.Good.{controllers-counted, some-controller}
 use Rattle.steps.specs.declared.Move.{Move}
 use Rattle.steps.specs.declared.Move.the-variants.{Stay, AskAgain, Count, EnterFull, EnterSilent, Pass, Wait, GoDown, EnterNoCommunication, Enter}
 use Rattle.steps.specs.Steps.{asksFor, isFullStep}
@@ -23,7 +23,7 @@ use Rattle.network.specs.declared.State.{State}
 use Rattle.network.specs.Moving.{afterMove}
 use Rattle.network.specs.Parts.{Sight, aTick, aBusOff, aStall, anAnswer}
 use Rattle.network_theorems.specs.Kept.{Kept}
-use Rattle.network_demands.specs.Words.{Seen, OwnHistory, is, hands, ticked, isTick, fell, isBusOff, isStall, shut, cleared, told, wanted, up}
+use Rattle.network_demands.specs.Words.{Seen, OwnHistory, is, hands, ticked, isTick, fell, isBusOff, isStall, shut, cleared, told, up}
 use Rattle.network_demands.specs.Words.{fellUp}
 use Rattle.network_demands.specs.Own.{decides, tickAfter, tickHands, stateOf, Ran}
 use Rattle.network_demands.specs.Promises.{Shutdown, highest, Ticks}
@@ -35,7 +35,8 @@ use Rattle.network_demands.proofs.Up.{up-means}
 use Rattle.network_demands.proofs.Follows.{state-kept, Follows, follows}
 use Rattle.network_demands.proofs.Told.{full-mode-number, told-in-full}
 use Rattle.network_demands.proofs.Standing.{StandsIn, stands}
-use Rattle.network_demands.proofs.Turns.{full-stays, full-begins, ends, goes-down, begins, sinks, full-rests}
+use Rattle.network_demands.proofs.Counted.{silence-settled}
+use Rattle.network_demands.proofs.Turns.{full-stays, full-begins, silence-wanted, ends, goes-down, begins, sinks, full-rests}
 use Rattle.network_demands.proofs.Checked.{sinceFull, since-full-tick, checked-tick, checked}
 use Rattle.network_demands.proofs.Readied.{done-prepared}
 use Rattle.network_demands.proofs.Stops.{in-step-15, done-stopped}
@@ -62,6 +63,7 @@ apart-ticks n e h t none notes prefails nothing =
       online = λ c m. none (is 3 c 0) refl refl refl ∙ sym full;
       notes-full = none (is 7 (n .handle) 2) refl refl refl ∙ sym full;
       notes-silent = rw (silent, t) refl;
+      enters-silent = λ z. absurd (false≢true (sym silent ∙ z));
       offline = λ c m. none (is 3 c 1) refl refl refl ∙ rw (silent, t) refl;
       notes-bus-off = notes;
       prefails = prefails;
@@ -149,10 +151,7 @@ module _ (n : Network) (g : InRange n) (f : Distinct (controllersOf n)) (h : Own
   -- a tick hands out at most two records more than the network has controllers
   few-records : length (tickHands n s) ≤ n .count + 2
   few-records =
-      let c : length (controllersOf n) ≡ n .count = padded-count 4 0 (n .controllers) (n .count) (g .few-controllers) (g .blank-slots) in
-      let f = g .some-controller in
-      let k : 0 < length (controllersOf n) = omega arith in
-      omega (arith, k, length-move n (s .step) (s .told) m)
+      omega (arith, controllers-counted n g, some-controller n g, length-move n (s .step) (s .told) m)
 
   -- each has an argument of its kind
   known-records : any (λ (x : Record). ltb (highest (x .kind)) (x .argument)) (tickHands n s) ≡ false
@@ -200,6 +199,12 @@ module _ (n : Network) (g : InRange n) (f : Distinct (controllersOf n)) (h : Own
       online = λ c own. move-goes-online n c own (s .step) (s .told) m ∙ sym (move-says-full n (s .step) (s .told) m);
       notes-full = move-notes-full n (s .step) (s .told) m ∙ sym (move-says-full n (s .step) (s .told) m);
       notes-silent = move-notes-silent n (s .step) (s .told) m ∙ sym (move-silent-alone n (s .step) (s .told) m);
+      enters-silent = λ z.
+          let silent = sym (move-notes-silent n (s .step) (s .told) m) ∙ z in
+          record {
+            called = sym (follow .wanted) ∙ silence-wanted n s (standing .suited) kept silent;
+            settled = silence-settled n g h r silent;
+          };
       offline = λ c own. move-goes-offline n c own (s .step) (s .told) m
           ∙ rw (move-notes-silent n (s .step) (s .told) m, ← wait-begins n g h r f now) refl;
       notes-bus-off = move-notes-no-bus-off n (s .step) (s .told) m;

@@ -44,7 +44,8 @@ use Rattle.network_demands.proofs.Handed.{isGoDown, move-shuts}
 use Rattle.network_demands.proofs.Given.{start-asks}
 use Rattle.network_demands.proofs.Slots.{every-member, every-same, saidOkay, no-answer-yet, all-okay}
 use Rattle.network_demands.proofs.Up.{up-means, says}
-use Rattle.network_demands.proofs.Follows.{state-kept, Follows, follows, follows-fall, told-follows, delay-follows}
+use Rattle.network_demands.proofs.Follows.{state-kept, wanted-follows, told-follows}
+use Rattle.network_demands.proofs.Counted.{Counted, counted, counted-fall, delay-follows}
 use Rattle.network_demands.proofs.Running.{since-by, owed-by, stall-by, asked-first, first-stays, first-tick, none-run}
 use Rattle.network_demands.proofs.Way.{Cause, comingUp, busOff, stall, Way, away, stopping, starting, delayed, there, silenced}
 use Rattle.network_demands.proofs.Way.{wayIn, causeIn, wayOf, isThere, down-away, down-comes-up, way-away, delayBy, isStallCause, Late}
@@ -293,7 +294,7 @@ module _ (n : Network) (g : InRange n) (told : Mode) (asked : Bool) (answers : L
 
 -- ---- all that is seen
 module _ (n : Network) (g : InRange n) (f : Distinct (controllersOf n)) (h : OwnHistory) (s : State) (k : Kept n s) (u : up n h ≡ isUp (s .step))
-    (v : Follows n s h) (i : StandsAt n s h) where
+    (v : modeNumber (s .wanted) ≡ wanted h) (y : Counted n s h) (i : StandsAt n s h) where
   abbrev StillStands : Seen → State → Type 0
   StillStands e t = StandsAt n t (e ∷ h)
 
@@ -315,7 +316,7 @@ module _ (n : Network) (g : InRange n) (f : Distinct (controllersOf n)) (h : Own
       let m = decides n s in
       let e : Seen = seen aTick 0 (tickHands n s) in
       let shuts : setback n e ≡ isGoDown m = move-shuts n (s .step) _ m in
-      rw (since-by n e h (isGoDown m) shuts, owed-by n e h (isGoDown m) shuts, stall-by n e h (isGoDown m) shuts, ← v .wanted)
+      rw (since-by n e h (isGoDown m) shuts, owed-by n e h (isGoDown m) shuts, stall-by n e h (isGoDown m) shuts, ← v)
       (after n g _ (s .asked) (s .answers) (s .count) (since (setback n) h) (owed n h) (afterStall n h) (wantedAtTick h) (finished n s)
       (any isRefusal (heardOf n s)) (reaches n s) (outfitOf (n .transceiver) (n .partial)) (s .step) (s .wanted)
       (k .wanted) done-runs (reaches-just n s) (finished-asked n s) i)
@@ -336,7 +337,7 @@ module _ (n : Network) (g : InRange n) (f : Distinct (controllersOf n)) (h : Own
     recovers = λ b.
         let e : Seen = seen aBusOff 0 (recovery (n .handle)) in
         rw (since-by n e h true refl, owed-by n e h true refl, stall-by n e h true refl, u, b)
-        (anew n busOff _ _ refl (sym (delay-follows n g (e ∷ h) (recovered s) (follows-fall n h s u v b))));
+        (anew n busOff _ _ refl (sym (delay-follows n g (e ∷ h) (recovered s) (counted-fall n h s u y b))));
     restarts = λ b a.
         let e : Seen = seen aBusOff 0 [] in
         rw (since-by n e h true refl, owed-by n e h true refl, stall-by n e h true refl, u, b, a, down-comes-up (phaseOf (s .step)) b)
@@ -354,7 +355,8 @@ pub stands-at : (n : Network) → InRange n → Distinct (controllersOf n) → (
 unfolding stateOf Ran started since owed afterStall
 stands-at n g f [] r = rw (first-down-away (n .partial)) (nothing-since n, refl)
 stands-at n g f (e ∷ h) r =
-    stands-call n g f h (stateOf n h) (state-kept n g h (r .1)) (up-means n h (r .1)) (follows n h (r .1)) (stands-at n g f h (r .1)) e (r .0)
+    stands-call n g f h (stateOf n h) (state-kept n g h (r .1)) (up-means n h (r .1)) (wanted-follows n h (r .1)) (counted n g h (r .1))
+    (stands-at n g f h (r .1)) e (r .0)
 
 -- ---- exactly when full is told
 -- there, full is due; elsewhere not

@@ -20,7 +20,7 @@ use Rattle.network_demands.specs.Words.{Seen, hands}
 use Rattle.network_demands.specs.Own.{finished, decides, tickHands}
 use Rattle.network_demands.specs.Promises.{handsKind, StaysDown}
 use Rattle.network_demands.proofs.Views.{seen}
-use Rattle.network_demands.proofs.Handed.{given, nothing-lowered, handsBy, isGoDown, isEnterFull, isEnd, pduSays, pdu-given, move-says-full}
+use Rattle.network_demands.proofs.Handed.{given, nothing-lowered, handsBy, isGoDown, isEnterFull, isEnterSilent, isEnd, pduSays, pdu-given, move-says-full}
 use Rattle.network_demands.proofs.Arrows.{suits, ownOutfit, restedPhase, hasRested, hasBegun, on-rested, up-rested, Down, first-down, Asks}
 use Rattle.network_demands.proofs.Arrows.{by-tick-arrow}
 use Rattle.network_demands.proofs.Given.{awaits-started, controllerSays, controller-given, roundSays, round-given}
@@ -89,12 +89,13 @@ module _ (n : Network) (s : State) (u : suits (ownOutfit n) (s .step) ≡ true) 
     ends = λ step wanted d f. absurd (false≢true (sym (ap fullPhase (d .falls)) ∙ f));
   }) u k
 
-  -- what holds where full is entered, or where no communication is
-  entered : (full ended : Bool) (Q : Step → Mode → Type 0) → (full ≡ true → Q ControllersStarted Mode.Full)
-      → (full ≡ true → (step : Step) → isFullStep step ≡ false → Q step Mode.Full) → (ended ≡ true → (step : Step) (wanted : Mode) → Down step
-      → Q step wanted) → handsBy full false false false false ended m ≡ true → Q (s .step) (s .wanted)
-  entered full ended Q started filled gone =
-      by-tick-arrow n s (λ step wanted m. handsBy full false false false false ended m ≡ true → Q step wanted) (record {
+  -- what holds where full is entered, where silent is, or where no communication is
+  entered : (full silent ended : Bool) (Q : Step → Mode → Type 0) → (full ≡ true → Q ControllersStarted Mode.Full)
+      → (full ≡ true → (step : Step) → isFullStep step ≡ false → Q step Mode.Full) → (silent ≡ true → (step : Step) → Q step Mode.Silent)
+      → (ended ≡ true → (step : Step) (wanted : Mode) → Down step → Q step wanted)
+      → handsBy full silent false false false ended m ≡ true → Q (s .step) (s .wanted)
+  entered full silent ended Q started filled silenced gone =
+      by-tick-arrow n s (λ step wanted m. handsBy full silent false false false ended m ≡ true → Q step wanted) (record {
         rests = λ wanted w f. absurd (false≢true f);
         called = λ u f. absurd (false≢true f);
         called-bare = λ u f. absurd (false≢true f);
@@ -110,7 +111,7 @@ module _ (n : Network) (s : State) (u : suits (ownOutfit n) (s .step) ≡ true) 
         waits-on = λ t wanted w r f. absurd (false≢true f);
         resumes = λ wanted w d f. absurd (false≢true f);
         fills = λ step q e f. filled f step e;
-        silences = λ step q f. absurd (false≢true f);
+        silences = λ step q f. silenced f step;
         goes-down = λ step o f. absurd (false≢true f);
         sinks = λ step next wanted d e _ f. absurd (false≢true f);
         ends = λ step wanted d f. gone f step wanted d;
@@ -119,14 +120,20 @@ module _ (n : Network) (s : State) (u : suits (ownOutfit n) (s .step) ≡ true) 
   -- full is entered from a step that is not full, where full is wanted
   pub full-begins : isEnterFull m ≡ true → (isFullStep (s .step) ≡ false) × (modeNumber (s .wanted) ≡ 2)
   full-begins =
-      entered true false (λ step wanted. (isFullStep step ≡ false) × (modeNumber wanted ≡ 2))
-      (λ _. (refl, refl)) (λ _ step e. (e, refl)) (λ z. absurd (false≢true z))
+      entered true false false (λ step wanted. (isFullStep step ≡ false) × (modeNumber wanted ≡ 2))
+      (λ _. (refl, refl)) (λ _ step e. (e, refl)) (λ z. absurd (false≢true z)) (λ z. absurd (false≢true z))
+
+  -- silent is entered where silent is wanted
+  pub silence-wanted : isEnterSilent m ≡ true → modeNumber (s .wanted) ≡ 1
+  silence-wanted =
+      entered false true false (λ step wanted. modeNumber wanted ≡ 1)
+      (λ z. absurd (false≢true z)) (λ z. absurd (false≢true z)) (λ _ step. refl) (λ z. absurd (false≢true z))
 
   -- no communication is entered only by a network that goes down
   pub ends : isEnd m ≡ true → hasRested (s .step) ≡ false
   ends =
-      entered false true (λ step wanted. hasRested step ≡ false)
-      (λ z. absurd (false≢true z)) (λ z. absurd (false≢true z)) (λ _ step wanted d. ap restedPhase (d .falls))
+      entered false false true (λ step wanted. hasRested step ≡ false)
+      (λ z. absurd (false≢true z)) (λ z. absurd (false≢true z)) (λ z. absurd (false≢true z)) (λ _ step wanted d. ap restedPhase (d .falls))
 
   -- the network goes down exactly where it is on and no is wanted
   abbrev GoesDown : Step → Mode → Move → Type 0

@@ -17,7 +17,8 @@ use Rattle.network.specs.declared.Report.{Report}
 use Rattle.network.specs.Parts.{Sight, aTick, aBusOff, aStall, anAnswer, aRequest, aReport, nothing}
 use Rattle.network_demands.specs.Words.{Seen, OwnHistory, accepted, hands, since, tally, ticked, fell, shut, cleared, told, wanted, up}
 use Rattle.network_demands.specs.Words.{rested, on}
-use Rattle.network_demands.specs.Words.{isStall, isAnswerOn, setback, awaited, fellUp, owed, afterStall, askedToStart, firstRunning}
+use Rattle.network_demands.specs.Words.{isStall, isAnswerOn, setback, awaited, fellUp, restarting, owed, afterStall, askedToStart}
+use Rattle.network_demands.specs.Words.{firstRunning}
 
 -- ---- bus-offs
 
@@ -108,6 +109,11 @@ pub record SaysFull (n : Network) (e : Seen) (h : OwnHistory) : Type 0 where
   pub news : eqb 2 (told n h) ≡ false
   pub called : wanted h ≡ 2
 
+-- T24: silent is entered only where it is wanted, and not while the network is restarting
+pub record EntersSilent (n : Network) (h : OwnHistory) : Type 0 where
+  pub called : wanted h ≡ 1
+  pub settled : restarting n h ≡ false
+
 -- T25: a shutdown begins with 7 no; 6 silent follows exactly if full was told; after these no record of kind 6, 7 or 8
 pub record Shutdown (n : Network) (e : Seen) (h : OwnHistory) : Type 0 where
   pub rest : List Record
@@ -164,6 +170,7 @@ pub record Ticks (n : Network) (e : Seen) (h : OwnHistory) : Type 0 where
   pub notes-full : hands 7 (n .handle) 2 e ≡ hands 6 (n .handle) 2 e
   -- T24, T25: 7 silent goes out exactly by a tick that hands out 6 silent and is no shutdown
   pub notes-silent : hands 7 (n .handle) 1 e ≡ ticked e && (hands 6 (n .handle) 1 e && not (shut n e))
+  pub enters-silent : hands 7 (n .handle) 1 e ≡ true → EntersSilent n h
   -- T11, T24: every controller goes TX offline exactly with 7 silent and by the tick with which the wait begins
   pub offline : (c : ℕ) → member c (controllersOf n) ≡ true → hands 3 c 1 e ≡ hands 7 (n .handle) 1 e || (ticked e && waitBegins n (e ∷ h))
   -- B3: 7 bus-off and 8 prefailed go out exactly by a bus-off while up, and so by no tick

@@ -184,20 +184,38 @@ unfoldable pub wantedAtTick : OwnHistory → ℕ
 wantedAtTick [] = 0
 wantedAtTick (e ∷ h) = cond (ticked e) (wanted h) (wantedAtTick h)
 
--- ---- bus-offs while up, and the delay that they bring
+-- ---- bus-offs while up, which of them count, and the delay that they bring
 
 -- the entry, which follows h, is a bus-off while the network was up
 abbrev pub fellUp : Network → Seen → OwnHistory → Bool
 fellUp n e h = fell e && up n h
 
--- how many bus-offs came while the network was up, since the last all-clear
+-- TX offline went to a controller of the network: the records of an entry are those that name its ids
+abbrev pub quieted : Seen → Bool
+quieted e = any (λ (r : Record). eqb 3 (r .kind) && eqb 1 (r .argument)) (e .records)
+
+-- restarting: a bus-off came while the network was up, and neither TX offline nor a shutdown since
+unfoldable pub restarting : Network → OwnHistory → Bool
+restarting n [] = false
+restarting n (e ∷ h) = cond (quieted e || shut n e) false (fellUp n e h || restarting n h)
+
+-- the entry, which follows h, is a bus-off that counts: it came while the network was up, and not while it was restarting
+abbrev pub counts : Network → Seen → OwnHistory → Bool
+counts n e h = fellUp n e h && not (restarting n h)
+
+-- how many bus-offs counted since the last all-clear: of each entry by what went before it
 unfoldable pub falls : Network → OwnHistory → ℕ
 falls n [] = 0
-falls n (e ∷ h) = cond (cleared n e) 0 (cond (fellUp n e h) (suc (falls n h)) (falls n h))
+falls n (e ∷ h) = cond (cleared n e) 0 (cond (counts n e h) (suc (falls n h)) (falls n h))
 
--- the delay that a bus-off at the head of the history brings: the long one exactly where these bus-offs, up to and with it, exceed the threshold
+-- the delay that a bus-off at the head of the history brings, whether it counts or not: the long one exactly where those that count, up to and with
+-- it, exceed the threshold
 abbrev pub delayAt : Network → OwnHistory → ℕ
 delayAt n h = cond (ltb (n .threshold) (falls n h)) (n .long) (n .short)
+
+-- one fault is counted once: whatever s reports, which follows the bus-off b while up, no bus-off more counts until TX offline or a shutdown
+abbrev pub CountedOnce : Network → OwnHistory → Seen → OwnHistory → Type 0
+CountedOnce n s b h = fellUp n b h ≡ true → never quieted s → never (shut n) s → falls n (s ++ (b ∷ h)) ≡ falls n (b ∷ h)
 
 -- the delay that is owed since the last setback: that of a bus-off while up, and else none
 unfoldable pub owed : Network → OwnHistory → ℕ

@@ -9,8 +9,8 @@ use Rattle.records.specs.declared.Mode.{Mode}
 use Rattle.settings.specs.declared.Network.{Network}
 use Rattle.settings.specs.Settings.{controllersOf, member}
 use Rattle.settings.specs.Good.{InRange}
+use Rattle.settings.proofs.Good.{controllers-counted}
 use Rattle.steps.specs.declared.Step.{Step}
-use Rattle.steps.specs.declared.Step.the-variants.{Full, Silent, ClearWake, CheckWake}
 use Rattle.steps.specs.declared.Outfit.{Outfit}
 use Rattle.steps.specs.declared.Move.{Move}
 use Rattle.steps.specs.declared.Ask.{Ask}
@@ -229,7 +229,7 @@ report-kept n s report e k =
 slot-used : (n : Network) (s : State) (id : ℕ) →
     InRange n → Kept n s → member id (controllersOf n) ≡ true → first (λ (x : ℕ). eqb x id) (controllersOf n) < length (heardOf n s)
 slot-used n s id g k e =
-    let c : length (controllersOf n) ≡ n .count = padded-count 4 0 (n .controllers) (n .count) (g .few-controllers) (g .blank-slots) in
+    let c = controllers-counted n g in
     let h : length (heardOf n s) ≡ n .count = padded-count 4 (heard LastAnswer.Pending) (s .answers) (n .count) (g .few-controllers) (k .slots) in
     let f = first-below (λ (x : ℕ). eqb x id) (controllersOf n) e in
     omega arith

@@ -3,3 +3,4 @@ pub mod Kept
 pub mod Theorems
 pub mod Parts
 pub mod Requests
+pub mod BusOffs

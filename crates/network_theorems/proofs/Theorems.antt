@@ -1,11 +1,10 @@
 -- What the layers above rely on of one network, each theorem with its sentence. docs/PROOFS.md lists them.
 use Rattle.lists.proofs.Basics.{ℕ, _+_, _≤_, _<_, arith, lt-ltb, le-ltb, _≡_, refl, sym, ap, _∙_, true, false, length}
 use Rattle.lists.specs.Lists.{every}
-use Rattle.lists.proofs.Parts.{padded-count}
 use Rattle.records.specs.declared.Mode.{Mode}
 use Rattle.settings.specs.declared.Network.{Network}
-use Rattle.settings.specs.Settings.{controllersOf}
 use Rattle.settings.specs.Good.{InRange}
+use Rattle.settings.proofs.Good.{controllers-counted, some-controller}
 use Rattle.steps.specs.declared.Step.{Step}
 use Rattle.steps.specs.declared.Move.{Move}
 use Rattle.steps.specs.Steps.{isFullStep}
@@ -24,10 +23,7 @@ use Rattle.network_theorems.specs.Kept.{isFullMode, Kept}
 pub tick-few : (n : Network) (s : State) → InRange n → length (tickRecords n s) ≤ n .count + 2
 unfolding tickRecords
 tick-few n s g =
-    let c : length (controllersOf n) ≡ n .count = padded-count 4 0 (n .controllers) (n .count) (g .few-controllers) (g .blank-slots) in
-    let f = g .some-controller in
-    let k : 0 < length (controllersOf n) = omega arith in
-    omega (arith, k, length-move n (s .step) (s .told) (moveOf n s))
+    omega (arith, controllers-counted n g, some-controller n g, length-move n (s .step) (s .told) (moveOf n s))
 
 -- every record of a tick names the network's own controllers, transceiver or handle
 pub tick-own : (n : Network) (s : State) → every (ownRecord n) (tickRecords n s) ≡ true

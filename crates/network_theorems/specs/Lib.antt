@@ -1,3 +1,4 @@
 pub mod Kept
 pub mod Requests
+pub mod BusOffs
 pub mod Examples

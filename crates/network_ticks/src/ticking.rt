@@ -153,9 +153,9 @@ fn choose(network: Network, state: State) -> Move
     let outfit = outfit_of(transceiver, network.partial);
     if ask.is_to_sleep() {
         let refused = any_refused(network, state);
-        return steps::decide(step, wanted, done, refused, reached, outfit);
+        return deciding::decide(step, wanted, done, refused, reached, outfit);
     }
-    steps::decide(step, wanted, done, false, reached, outfit)
+    deciding::decide(step, wanted, done, false, reached, outfit)
 }
 
 // The network rests: what is wanted is there. Its tick changes nothing and hands out nothing.

@@ -1,8 +1,10 @@
--- Ids that are used once: what the reader tests of each id, and what `Good` says of all of them, are the same.
-use Rattle.lists.proofs.Basics.{ℕ, _+_, _≡_, refl, sym, ap, subst, _∙_, List, [], _∷_, _++_, append-nil, append-assoc, false, or-false}
-use Rattle.lists.proofs.Basics.{append-snoc}
+-- What `Good` says: a network's controllers are as many as it counts; and ids that are used once: what the reader tests of each id, and what `Good`
+-- says of all of them, are the same.
+use Rattle.lists.proofs.Basics.{ℕ, _+_, _<_, arith, _≡_, refl, sym, ap, subst, _∙_, List, [], _∷_, _++_, append-nil, append-assoc, false, or-false}
+use Rattle.lists.proofs.Basics.{append-snoc, length}
 use Rattle.lists.specs.Lists.{any}
 use Rattle.lists.proofs.Any.{any-append}
+use Rattle.lists.proofs.Parts.{padded-count}
 use Rattle.settings.specs.declared.Transceiver.{Transceiver}
 use Rattle.settings.specs.declared.Transceiver.the-variants.{Absent, Present}
 use Rattle.settings.specs.declared.Network.{Network}
@@ -10,6 +12,17 @@ use Rattle.settings.specs.declared.Id.{Id}
 use Rattle.settings.specs.declared.Id.the-variants.{OfNetwork, OfController, OfTransceiver}
 use Rattle.settings.specs.Settings.{handlesOf, controllersOf, transceiversOf, listed, member, hasTransceiver, has, used}
 use Rattle.settings.specs.Good.{Below, Fresh, all, InRange, EachInRange}
+
+-- ---- InRange
+-- a network has as many controllers as it counts, and so one at least
+pub controllers-counted : (n : Network) → InRange n → length (controllersOf n) ≡ n .count
+controllers-counted n g = padded-count 4 0 (n .controllers) (n .count) (g .few-controllers) (g .blank-slots)
+
+pub some-controller : (n : Network) → InRange n → 0 < length (controllersOf n)
+some-controller n g =
+    let counted = controllers-counted n g in
+    let some = g .some-controller in
+    omega arith
 
 -- ---- Below
 pub below-append : (limit : ℕ) (l m : List ℕ) → Below limit l → Below limit m → Below limit (l ++ m)

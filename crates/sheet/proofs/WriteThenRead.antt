@@ -14,7 +14,7 @@ use Rattle.settings.specs.declared.Network.{Network}
 use Rattle.settings.specs.declared.Settings.{Settings}
 use Rattle.settings.specs.Settings.{blankNetwork, blankSettings, networksOf, handlesOf, controllersOf, transceiversOf, listed, member}
 use Rattle.settings.specs.Good.{Below, Fresh, all, InRange, EachInRange, Good}
-use Rattle.settings.proofs.Good.{fresh-left, fresh-right, all-snoc, used-handle, used-controller, used-transceiver}
+use Rattle.settings.proofs.Good.{controllers-counted, fresh-left, fresh-right, all-snoc, used-handle, used-controller, used-transceiver}
 use Rattle.entries.specs.declared.Entry.{Entry}
 use Rattle.entries.specs.declared.Progress.{Progress}
 use Rattle.entries.specs.declared.Progress.the-variants.{Named, Listed, Fitted, Timed, Limited}
@@ -177,9 +177,6 @@ module _ (ns : List Network) where
         ∙ ap (λ (n : ℕ). sheet (rows 0 n l) (pushed S finished)) (omega arith)
 
 -- ---- a whole network
-count-of : (n : Network) → InRange n → length (controllersOf n) ≡ n .count
-count-of n g = padded-count 4 0 (n .controllers) (n .count) (g .few-controllers) (g .blank-slots)
-
 has-present : (t : Transceiver) (b : Bool) → (b ≡ true → t ≡ Absent → ⊥) → b ≡ true → present t ≡ true
 has-present Absent b h e = absurd (h e refl)
 has-present (Present v) b h e = refl
@@ -210,7 +207,7 @@ module _ (ns : List Network) where
       λ i. record {
         handle = n .handle;
         controllers = sym (g .blank-slots) i;
-        count = count-of n g i;
+        count = controllers-counted n g i;
         transceiver = n .transceiver;
         short = n .short;
         long = n .long;
@@ -231,7 +228,7 @@ module _ (ns : List Network) where
       let r1 : List ℕ = encodeTransceiver
       (n .transceiver) (timesField (n .short) (n .long) (n .ensure) (byteField 5 (n .threshold) (byteField 6 (bit (n .partial)) l))) in
       let r0 : List ℕ = encodeControllers (controllersOf n) r1 in
-      let u : length (controllersOf n) ≡ n .count = count-of n g in
+      let u : length (controllersOf n) ≡ n .count = controllers-counted n g in
       let a1 : ℕ = at + 3 + 1 + 4 * length (controllersOf n) in
       ap (λ (r : Row). sheet r (settingsOf ns)) (rows-field at 1 (n .handle ∷ []) r0)
       ∙ rw (opens-handle ns (n .handle) (fh .0) h) refl

@@ -1,6 +1,6 @@
 -- Laws by cases of the step, for the crates above: each says once what a new step has to answer.
-use mathlib.Core.Path.{_≡_, refl}
-use mathlib.Core.Bool.{Bool, false, true≢false}
+use mathlib.Core.Path.{_≡_, refl, sym, ap, _∙_}
+use mathlib.Core.Bool.{Bool, true, false, true≢false, false≢true}
 use Rattle.records.specs.declared.Mode.{Mode}
 use Rattle.steps.specs.declared.Step.{Step}
 use Rattle.steps.specs.declared.Step.the-variants.{NoCommunication, TransceiverNormal, ControllersStopped, ControllersStarted}
@@ -10,7 +10,7 @@ use Rattle.steps.specs.declared.Step.the-variants.{ResetStopped, ResetSt
 use Rattle.steps.specs.declared.Phase.{Phase}
 use Rattle.steps.specs.declared.Ask.{Ask}
 use Rattle.steps.specs.declared.Outfit.{Outfit}
-use Rattle.steps.specs.Steps.{phaseOf, asksFor, asksToStart, asksToSleep}
+use Rattle.steps.specs.Steps.{phaseOf, asksFor, isRestarting, asksToStart, asksToSleep}
 use Rattle.steps.specs.Decision.{decision}
 
 -- ---- phaseOf
@@ -44,6 +44,35 @@ in-phase CheckWake = tt
 in-phase CheckWakeAgain = tt
 in-phase ResetStopped = λ e. refl
 in-phase ResetStarted = λ e. absurd (true≢false e)
+
+-- ---- stepNumber
+-- step 6 is the one that has this number
+pub restarting-is : (step : Step) → isRestarting step ≡ true → step ≡ Restarting
+restarting-is NoCommunication e = absurd (false≢true e)
+restarting-is TransceiverNormal e = absurd (false≢true e)
+restarting-is ControllersStopped e = absurd (false≢true e)
+restarting-is ControllersStarted e = absurd (false≢true e)
+restarting-is (Checking t) e = absurd (false≢true e)
+restarting-is Full e = absurd (false≢true e)
+restarting-is Restarting e = refl
+restarting-is (Waiting t) e = absurd (false≢true e)
+restarting-is Silent e = absurd (false≢true e)
+restarting-is ClearWake e = absurd (false≢true e)
+restarting-is DownStopped e = absurd (false≢true e)
+restarting-is TransceiverStandby e = absurd (false≢true e)
+restarting-is ControllersSleep e = absurd (false≢true e)
+restarting-is CheckWake e = absurd (false≢true e)
+restarting-is CheckWakeAgain e = absurd (false≢true e)
+restarting-is ResetStopped e = absurd (false≢true e)
+restarting-is ResetStarted e = absurd (false≢true e)
+
+-- so a step that passes a test which step 6 does not pass is another one
+pub not-restarting : (step : Step) (p : Step → Bool) → p Restarting ≡ false → p step ≡ true → isRestarting step ≡ false
+not-restarting step p z e = by-test (isRestarting step) refl
+  where
+    by-test : (b : Bool) → isRestarting step ≡ b → b ≡ false
+    by-test true r = absurd (false≢true (sym z ∙ ap p (sym (restarting-is step r)) ∙ e))
+    by-test false r = refl
 
 -- ---- decision
 module _ (wanted : Mode) (done refused reached : Bool) (outfit : Outfit) where

@@ -2,6 +2,7 @@
 -- steps is said of the phase. The rules N1, N2, N4, N5 and N10 of docs/RULES.md.
 use Prim.Native.Nat.{ℕ}
 use mathlib.Core.Bool.{Bool, true, false}
+use lib.Dec.{eqb}
 use Rattle.records.specs.declared.ControllerMode.{ControllerMode}
 use Rattle.records.specs.declared.TransceiverMode.{TransceiverMode}
 use Rattle.steps.specs.declared.Step.{Step}
@@ -107,6 +108,10 @@ isUp step = upPhase (phaseOf step)
 -- N5: steps 4 and 5
 abbrev pub isFullStep : Step → Bool
 isFullStep step = fullPhase (phaseOf step)
+
+-- step 6, in which the controllers are started again after a bus-off
+abbrev pub isRestarting : Step → Bool
+isRestarting step = eqb 6 (stepNumber step)
 
 -- ---- what is asked for
 -- there is something to ask for: not in steps 0, 4, 5, 7 and 8

@@ -1,13 +1,11 @@
-// The seventeen steps of a network, what each asks for, and what a tick decides.
+// The seventeen steps of a network, what each asks for, what a tick can decide, and the step after that.
 mod after;
-mod decision;
 
 ghost use mathlib.Core.Path.{_≡_};
 ghost use Rattle.steps.specs.Steps.{row, profileOf, stepNumber, phaseOf, asksFor, timerOf};
 ghost use Rattle.steps.specs.Steps.{onPhase, upPhase, fullPhase, isOn, isUp, isFullStep, asksToStart, asksToSleep};
 pub use after::first_down;
 pub use after::step_after;
-pub use decision::decide;
 use records::ControllerMode;
 use records::TransceiverMode;
 
@@ -214,6 +212,9 @@ impl Step {
     // The most ticks that a timed step counts.
     pub const MOST_TICKS: u16 = 65535;
 
+    // The number of the step in which the controllers are started again after a bus-off.
+    pub const RESTART: u8 = 6;
+
     // N1, N2: the table of the steps.
     fn profile(self) -> Profile
         ensures { λ r. ⌜ r ≡ profileOf self ⌝ }
@@ -272,7 +273,7 @@ impl Step {
     }
 
     // Steps 1 to 8, 15 and 16.
-    fn is_on(self) -> bool
+    pub fn is_on(self) -> bool
         ensures { λ r. ⌜ r ≡ isOn self ⌝ }
     {
         let phase = self.phase();
