@@ -61,8 +61,7 @@ fn count_in(step: Step, count: u8) -> u8
     ensures { λ r. ⌜ r ≡ countedIn step count ⌝ }
 {
     let more = raise(count);
-    let number = step.number();
-    if number == Step::RESTART {
+    if step.is_restarting() {
         return count;
     }
     more

@@ -3,7 +3,7 @@ mod after;
 
 ghost use mathlib.Core.Path.{_≡_};
 ghost use Rattle.steps.specs.Steps.{row, profileOf, stepNumber, phaseOf, asksFor, timerOf};
-ghost use Rattle.steps.specs.Steps.{onPhase, upPhase, fullPhase, isOn, isUp, isFullStep, asksToStart, asksToSleep};
+ghost use Rattle.steps.specs.Steps.{onPhase, upPhase, fullPhase, isOn, isUp, isFullStep, isRestarting, asksToStart, asksToSleep};
 pub use after::first_down;
 pub use after::step_after;
 use records::ControllerMode;
@@ -213,7 +213,7 @@ impl Step {
     pub const MOST_TICKS: u16 = 65535;
 
     // The number of the step in which the controllers are started again after a bus-off.
-    pub const RESTART: u8 = 6;
+    const RESTART: u8 = 6;
 
     // N1, N2: the table of the steps.
     fn profile(self) -> Profile
@@ -286,6 +286,13 @@ impl Step {
     {
         let phase = self.phase();
         phase.is_up()
+    }
+
+    // Step 6, in which the controllers are started again after a bus-off.
+    pub fn is_restarting(self) -> bool
+        ensures { λ r. ⌜ r ≡ isRestarting self ⌝ }
+    {
+        Step::RESTART == self.number()
     }
 
     // N5: steps 4 and 5.
