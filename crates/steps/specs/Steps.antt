@@ -109,7 +109,7 @@ isUp step = upPhase (phaseOf step)
 abbrev pub isFullStep : Step → Bool
 isFullStep step = fullPhase (phaseOf step)
 
--- step 6, in which the controllers are started again after a bus-off
+-- B2: step 6, in which the controllers are started again after a bus-off
 abbrev pub isRestarting : Step → Bool
 isRestarting step = eqb 6 (stepNumber step)
 

@@ -288,7 +288,7 @@ impl Step {
         phase.is_up()
     }
 
-    // Step 6, in which the controllers are started again after a bus-off.
+    // B2: step 6, in which the controllers are started again after a bus-off.
     pub fn is_restarting(self) -> bool
         ensures { λ r. ⌜ r ≡ isRestarting self ⌝ }
     {
