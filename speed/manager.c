@@ -131,9 +131,11 @@ static void end_down(struct records *to, struct network *network) {
     else ask(to, network);
 }
 
-/* T13: the long delay where the count is above the threshold, else the short one. */
+/* S27, T13: the long delay where the count is above the threshold, and by the newer rule at it; else the short one. */
 static inline uint16_t delay(const struct network *network) {
-    return network->bus_offs > network->threshold ? network->long_delay : network->short_delay;
+    unsigned count = network->bus_offs, threshold = network->threshold;
+    int is_long = network->at_or_above ? count >= threshold : count > threshold;
+    return is_long ? network->long_delay : network->short_delay;
 }
 
 /* T1: one network's move. */
@@ -331,7 +333,7 @@ uint8_t manager_request(struct manager *manager, uint8_t handle, uint8_t mode) {
 
 static uint16_t number(const uint8_t *at) { return (uint16_t)(at[0] << 8 | at[1]); }
 
-/* S4 to S9: one field of the sheet, its tag and its value. */
+/* S4 to S9, S27: one field of the sheet, its tag and its value. */
 static void take_field(struct manager *manager, struct network *network, uint8_t tag, const uint8_t *value) {
     unsigned place = (unsigned)(network - manager->network);
     switch (tag) {
@@ -355,6 +357,7 @@ static void take_field(struct manager *manager, struct network *network, uint8_t
         break;
     case 5: network->threshold = value[0]; break;
     case 6: network->partial = value[0]; break;
+    case 7: network->at_or_above = value[0]; break;
     }
 }
 

@@ -8,7 +8,7 @@ enum { MOST_NETWORKS = 8, MOST_CONTROLLERS = 4, RECORD = 3, BUS_OFF_ROOM = 9, ST
 
 struct network {
     /* the settings */
-    uint8_t handle, controllers, controller[MOST_CONTROLLERS], transceiver, has_transceiver, threshold, partial;
+    uint8_t handle, controllers, controller[MOST_CONTROLLERS], transceiver, has_transceiver, threshold, partial, at_or_above;
     uint16_t short_delay, long_delay, ensure;
     /* N3: the record, with a bit for each controller that answered ok, and for each that refused */
     uint8_t step, wanted, told, bus_offs, asked, okay, refused, reported;

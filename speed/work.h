@@ -4,7 +4,7 @@
 #include <stddef.h>
 #include <stdint.h>
 
-enum { ROOM = 144, SHEET_ROOM = 328 };
+enum { ROOM = 144, SHEET_ROOM = 360 };
 /* How the box around the manager answers: crates/workload/src/lib.rt says it. */
 enum { CALM = 0, DEAF = 1, RESTLESS = 2 };
 

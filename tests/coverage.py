@@ -7,19 +7,21 @@ steps         the seventeen steps
 transitions   each step and next step that a tick, a bus-off or a stall can make, for each outfit; staying is one too
 decisions     each thing that a tick can find: what the model's `next_step` is given
 counts        each step that takes a bus-off, and whether one is counted there
+delays        which delay ends, where the count is below the threshold, at it and above it, by each of the two rules
 answers       each number that reading the sheet or an event can be answered with
 refusals      the refusal numbers among the answers
+fields        each refusal of a sheet that its field of a tag can have, where the refusal stands at the field
 records       each kind of record with each argument
 endings       each way in which the program's output can end
 """
 
 from collections import Counter
 from functools import lru_cache
-from typing import Dict, FrozenSet, Iterable, Iterator, List, NamedTuple, Set, Tuple
+from typing import Dict, FrozenSet, Iterable, Iterator, List, NamedTuple, Optional, Set, Tuple
 from unittest import mock
 
 import model
-from model import EventTag, Limit, Mode, Outfit, Refusal, Step
+from model import EventTag, Limit, Mode, Outfit, Refusal, Relation, Step, Tag
 
 OUTFIT_NAMES = {
     Outfit.NO_TRANSCEIVER: "bare",
@@ -52,6 +54,14 @@ class Situation(NamedTuple):
     refusal_present: bool
     reached: bool
     outfit: int
+
+
+class Delay(NamedTuple):
+    """A delay of a recovery ends: the network's rule, where the count stands to the threshold, and which of the two delays it is."""
+
+    rule: str
+    count: str
+    name: str
 
 
 class Transition(NamedTuple):
@@ -88,6 +98,25 @@ POSSIBLE_ANSWERS = {
     EventTag.POLL: (model.ACCEPTED, Refusal.UNKNOWN_HANDLE),
     EventTag.STALL: (model.ACCEPTED, Refusal.UNKNOWN_HANDLE, Refusal.NOT_TAKEN),
 }
+
+# S15 to S23, S27: what a field of each tag can be refused with, where it is the field that is at fault.
+REFUSALS_OF_EVERY_FIELD = (Refusal.SHEET_CUT, Refusal.SHEET_WRONG_LENGTH, Refusal.SHEET_WRONG_ORDER)
+REFUSALS_OF_TAG = {
+    Tag.HANDLE: (Refusal.SHEET_USED_BEFORE, Refusal.SHEET_TOO_MANY),
+    Tag.CONTROLLER: (Refusal.SHEET_OUT_OF_RANGE, Refusal.SHEET_USED_BEFORE, Refusal.SHEET_TOO_MANY),
+    Tag.TRANSCEIVER: (Refusal.SHEET_OUT_OF_RANGE, Refusal.SHEET_USED_BEFORE),
+    Tag.TIMES: (Refusal.SHEET_OUT_OF_RANGE,),
+    Tag.THRESHOLD: (Refusal.SHEET_OUT_OF_RANGE,),
+    Tag.PARTIAL_NETWORKING: (Refusal.SHEET_OUT_OF_RANGE, Refusal.SHEET_NO_TRANSCEIVER),
+    Tag.RELATION: (Refusal.SHEET_OUT_OF_RANGE,),
+}
+
+# S8, S27, T13: which delay is due, by the network's rule and by where the count stands to the threshold.
+RULE_NAMES = {Relation.ABOVE: "older", Relation.AT_OR_ABOVE: "newer"}
+POSSIBLE_DELAYS = (
+    Delay("older", "below", "short"), Delay("older", "at", "short"), Delay("older", "above", "long"),
+    Delay("newer", "below", "short"), Delay("newer", "at", "long"), Delay("newer", "above", "long"),
+)
 
 # The refusal numbers of the rules that the program cannot give, and why.
 UNREACHABLE_REFUSALS = {
@@ -230,6 +259,7 @@ def possible_situations() -> Tuple[Situation, ...]:
 def possible() -> Dict[str, FrozenSet]:
     """All that the program can reach, by the names in the first lines of this file."""
     answers = frozenset((tag, answer) for tag, numbers in POSSIBLE_ANSWERS.items() for answer in numbers)
+    fields = frozenset((tag, answer) for tag, own in REFUSALS_OF_TAG.items() for answer in REFUSALS_OF_EVERY_FIELD + own)
     records = frozenset((kind, argument) for kind, number in ARGUMENTS_OF_KIND.items() for argument in range(number))
     transitions = frozenset().union(*(possible_transitions(outfit) for outfit in model.ALL_OUTFITS))
     return {
@@ -237,8 +267,10 @@ def possible() -> Dict[str, FrozenSet]:
         "transitions": transitions,
         "decisions": frozenset(possible_situations()),
         "counts": frozenset(possible_counts()),
+        "delays": frozenset(POSSIBLE_DELAYS),
         "answers": answers,
         "refusals": frozenset(answer for _, answer in answers if answer != model.ACCEPTED),
+        "fields": fields,
         "records": records,
         "endings": frozenset(Ending.ALL),
     }
@@ -259,6 +291,16 @@ def situation_of(network: model.NetworkRecord) -> Situation:
         model.timer_is_reached(network),
         model.outfit_of(network.settings),
     )
+
+
+def ending_delay(network: model.NetworkRecord) -> Optional[Delay]:
+    """The delay that this tick ends; None where it ends none, or where the two delays are the same and cannot be told apart."""
+    settings, count = network.settings, network.bus_off_count
+    if network.step != Step.WAITING or not model.timer_is_reached(network) or settings.short_delay == settings.long_delay:
+        return None
+    place = "below" if count < settings.threshold else "at" if count == settings.threshold else "above"
+    name = "long" if network.tick_count + 1 == settings.long_delay else "short"
+    return Delay(RULE_NAMES[settings.relation], place, name)
 
 
 def stop_reason(data: bytes, place: int) -> str:
@@ -321,11 +363,22 @@ class Reached:
         if before < Limit.BUS_OFF_COUNT:
             self.times["counts"][step, after > before] += 1
 
+    def note_delays(self, delays: List[Optional[Delay]]) -> None:
+        """A tick ended these delays, one of each network where it ended one."""
+        self.times["delays"].update(delay for delay in delays if delay is not None)
+
+    def note_field(self, data: bytes, answer: int, place: int) -> None:
+        """A sheet was refused at this place, where a field of the table may stand."""
+        if place < len(data) and data[place] in model.LENGTH_OF_TAG:
+            self.times["fields"][data[place], answer] += 1
+
     def note_output(self, data: bytes, output: str) -> None:
         """The first line of a whole output, and how it ends."""
         words = output.split()
         if words[0] == "config":
             self.note_answer(CONFIG, int(words[1]))
+            if int(words[1]) != model.ACCEPTED:
+                self.note_field(data, int(words[1]), int(words[2]))
         self.times["endings"][ending_of(data, output)] += 1
 
 
@@ -347,9 +400,11 @@ def watched_cantrace(data: bytes, reached: Reached) -> str:
         moving = moved_networks(manager, tag, value) if tag in MOVING_EVENTS else []
         found = [situation_of(network) for network in moving]
         counted = [network.bus_off_count for network in moving]
+        delays = [ending_delay(network) for network in moving] if tag == EventTag.TICK else []
         outcome = plain_run_event(manager, tag, value)
         reached.note_event(tag, outcome)
         if outcome.answer == model.ACCEPTED:
+            reached.note_delays(delays)
             for situation, count, network in zip(found, counted, moving):
                 reached.note_transition(tag, situation, network.step)
                 if tag == EventTag.BUS_OFF:
@@ -390,6 +445,11 @@ def transition_words(transition: Transition) -> str:
     return f"{outfit}, {EVENT_NAMES[transition.cause]}, {transition.step} to {transition.next_step}"
 
 
+def delay_words(delay: Delay) -> str:
+    """A delay in words, such as 'newer rule, at the threshold, the long delay'."""
+    return f"{delay.rule} rule, {delay.count} the threshold, the {delay.name} delay"
+
+
 def words_of(name: str, thing: object) -> str:
     """One of the things that can be reached, in words."""
     if name == "transitions":
@@ -400,8 +460,12 @@ def words_of(name: str, thing: object) -> str:
         return f"{EVENT_NAMES[thing[0]]} answered {thing[1]:02X}"
     if name == "refusals":
         return f"{thing:02X}"
+    if name == "fields":
+        return f"a field {thing[0]:02X} refused with {thing[1]:02X}"
     if name == "counts":
         return f"a bus-off in step {thing[0]}, {yes_or_no('counted', thing[1])}"
+    if name == "delays":
+        return delay_words(thing)
     if name == "records":
         return f"kind {thing[0]} argument {thing[1]}"
     return str(thing)
@@ -500,7 +564,13 @@ def table(reached: Reached) -> List[str]:
     lines.append("bus-offs, step and whether it was counted: times")
     counts = reached.times["counts"]
     lines += rows(f"{step} {yes_or_no('counted', counted)}: {counts[step, counted]}" for step, counted in sorted(possible()["counts"]))
+    lines.append("delays that came to their end, by the rule and by the count: times")
+    delays = reached.times["delays"]
+    lines += [f"  {delay_words(delay)}: {delays[delay]}" for delay in POSSIBLE_DELAYS]
     lines += answer_rows(reached)
+    lines.append("fields of a sheet, tag and the number that it was refused with: times")
+    fields = reached.times["fields"]
+    lines += rows(f"{tag:02X} {answer:02X}: {fields[tag, answer]}" for tag, answer in sorted(possible()["fields"]))
     lines.append("records, kind:argument: times")
     lines += rows(f"{kind}:{argument}: {records[kind, argument]}" for kind, argument in sorted(possible()["records"]))
     lines.append("endings: times")

@@ -8,13 +8,15 @@ from typing import Iterator
 
 import model
 from model import EventTag, Limit, Step, Tag
-from traces import LARGEST, SHEET, TICK, WHOLE_CASE, Case, Trace, field, network
+from traces import LARGEST, LARGEST_BY_THE_NEWER_RULE, SHEET, TICK, WHOLE_CASE, Case, Trace, field, network
 
 HANDLE, CONTROLLER, NO_PARTIAL = SHEET[:4], SHEET[4:8], SHEET[21:]
 TRANSCEIVER = bytes.fromhex("03000105")
 # A second network, with other ids.
 SECOND = bytes.fromhex("01000108 02000104 040006000100020001 05000100 06000100")
 LARGEST_SHEET = model.write_sheet(LARGEST)
+LARGEST_OF_ALL = model.write_sheet(LARGEST_BY_THE_NEWER_RULE)
+NEWER_RULE = field(Tag.RELATION, 1)
 SOME_EVENTS = WHOLE_CASE[25:46]  # five events
 
 
@@ -44,16 +46,16 @@ AFTER_THE_SHEET = [
     ("a whole field of tag 09, then a tick", "090001aa 160000", "config 49 25"),
     ("a whole field of tag 0f, then a tick", "0f0000 160000", "config 49 25"),
     ("a field of tag 00, then a tick", "000000 160000", "config 49 25"),
-    ("a field of tag 07 that swallows all events", "07000c 160000 160000 160000 160000", "config 49 25"),
+    ("a field of tag 07 that swallows all events", "07000c 160000 160000 160000 160000", "config 50 25"),
     ("a lone 01", "01", "config 48 25"),
     ("a handle without its value", "010001", "config 48 25"),
 ]
 
 # Sheets by refusal. Each is followed by a tick, which must not be run.
 DAMAGED_SHEETS = [
-    # S16: 31, the tag is none of a sheet's
+    # S16: 31, the tag is none of a sheet's; S27: 33, tag 07 is, and may not stand here
     ("tag 00", bytes(3) + SHEET, "config 49 0"),
-    ("tag 07", SHEET[:8] + bytes.fromhex("07000100") + SHEET[8:], "config 49 8"),
+    ("tag 07", SHEET[:8] + bytes.fromhex("07000100") + SHEET[8:], "config 51 8"),
     ("tag 0f in a second network", SHEET + SECOND[:21] + bytes.fromhex("0f0000") + SECOND[21:], "config 49 46"),
     # S17: 32, another length than the tag has
     ("handle of length 0", bytes.fromhex("010000") + SHEET[4:], "config 50 0"),
@@ -118,6 +120,70 @@ def sheet_cases() -> Iterator[Case]:
         yield Case(f"damaged sheet: {words}", sheet + TICK, last_line)
     for words, data in WITHOUT_SHEET:
         yield Case(f"no sheet: {words}", bytes.fromhex(data), "config 56 0")
+
+
+# S27: what follows the 25-byte sheet, in hexadecimal, and then a tick.
+AFTER_FIELD_06 = [
+    ("field 07", "07000101", "1 0 1:3:0"),
+    ("field 07 of value 0", "07000100", "config 52 25"),
+    ("field 07 of value 2", "07000102", "config 52 25"),
+    ("field 07 of value 255", "070001ff", "config 52 25"),
+    ("field 07 of length 0", "070000", "config 50 25"),
+    ("field 07 of length 2", "0700020101", "config 50 25"),
+    ("field 07 that swallows the tick", "070004 01", "config 50 25"),
+    ("field 07 that overruns", "07ffff 01", "config 50 25"),
+    ("field 07 twice", "07000101 07000101", "config 51 29"),
+    ("field 07 twice, the second of value 0", "07000101 07000100", "config 51 29"),
+    ("field 07 and partial networking again", "07000101 06000100", "config 51 29"),
+    ("field 07 and a controller", "07000101 02000104", "config 51 29"),
+    ("field 07 and its own handle again", "07000101 01000107", "config 53 29"),
+    ("field 07 and another handle", "07000101 01000108", "config 48 33"),
+    ("field 07 and tag 08", "07000101 08000101", "config 49 29"),
+    ("a whole field of tag 08", "08000101", "config 49 25"),
+    ("a field of tag 08 that swallows the tick", "080003", "config 49 25"),
+]
+CUT_AFTER_FIELD_06 = [
+    ("a lone 07", "07", "config 48 25"),
+    ("07 and half a length", "0700", "config 48 25"),
+    ("field 07 without its value", "070001", "config 48 25"),
+    ("field 07 and a lone 07", "07000101 07", "config 48 29"),
+    ("field 07 and a lone 16", "07000101 16", "stop 29"),
+]
+
+# S27: sheets in which field 07 stands elsewhere, or beside other faults, and then a tick.
+DAMAGED_BY_FIELD_07 = [
+    ("tag 08", SHEET[:8] + bytes.fromhex("08000100") + SHEET[8:], "config 49 8"),
+    ("field 07 first", NEWER_RULE + SHEET, "config 51 0"),
+    ("field 07 after the handle", HANDLE + NEWER_RULE + SHEET[4:], "config 51 4"),
+    ("field 07 after the controller", SHEET[:8] + NEWER_RULE + SHEET[8:], "config 51 8"),
+    ("field 07 after the transceiver", SHEET[:8] + TRANSCEIVER + NEWER_RULE + SHEET[8:], "config 51 12"),
+    ("field 07 after the times", SHEET[:17] + NEWER_RULE + SHEET[17:], "config 51 17"),
+    ("field 07 after the threshold", SHEET[:21] + NEWER_RULE + SHEET[21:], "config 51 21"),
+    ("field 07 in place of partial networking", SHEET[:21] + NEWER_RULE, "config 51 21"),
+    ("field 07 in a second network, before its field 06", SHEET + NEWER_RULE + SECOND[:21] + NEWER_RULE, "config 51 50"),
+    ("field 07 of value 2 in a second network", SHEET + NEWER_RULE + SECOND + bytes.fromhex("07000102"), "config 52 54"),
+    ("field 07 in a network with partial networking and no transceiver", SHEET[:24] + b"\x01" + NEWER_RULE, "config 55 21"),
+    ("the controller of the first network after field 07", SHEET + NEWER_RULE + SECOND[:4] + CONTROLLER, "config 53 33"),
+    ("field 07 twice after the largest sheet", LARGEST_OF_ALL + NEWER_RULE, "config 51 360"),
+    ("field 07 of value 0 after eight networks", LARGEST_SHEET + field(Tag.RELATION, 0), "config 52 328"),
+    ("a ninth network after field 07", LARGEST_OF_ALL + field(Tag.HANDLE, 1), "config 54 360"),
+    ("a ninth network with a used handle after field 07", LARGEST_OF_ALL + field(Tag.HANDLE, 255), "config 53 360"),
+]
+
+
+def field_07_cases() -> Iterator[Case]:
+    """Each refusal of field 07, and each of the fields that follow it."""
+    for words, after, last_line in AFTER_FIELD_06:
+        yield Case(f"after field 06: {words}", SHEET + bytes.fromhex(after) + TICK, last_line)
+    for words, after, last_line in CUT_AFTER_FIELD_06:
+        yield Case(f"after field 06: {words}", SHEET + bytes.fromhex(after), last_line)
+    for words, sheet, last_line in DAMAGED_BY_FIELD_07:
+        yield Case(f"damaged sheet: {words}", sheet + TICK, last_line)
+    yield Case("the sheet and a field of tag 08 that swallows all events", SHEET + bytes.fromhex("08000c") + TICK * 4, "config 49 25")
+    yield Case("the sheet with field 07, and an event of tag 19", SHEET + NEWER_RULE + bytes.fromhex("190000"), "stop 29")
+    yield Case("field 07 as an event", SHEET + TICK + NEWER_RULE, "stop 28")
+    yield Case("a transceiver without its value", SHEET[:8] + TRANSCEIVER[:3], "config 48 8")
+    yield Case("the largest sheet of all, and a tick that is cut", LARGEST_OF_ALL + TICK[:2], "stop 360")
 
 
 # ---------------------------------------------------------------------------

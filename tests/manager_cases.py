@@ -16,8 +16,10 @@ FOLDER = ROOT / "crates" / "manager_cases"
 HEADER = "expected output made by: python3 tests/manager_cases.py"
 FILL = 0xEE
 RECORDS_ROOM = 144
-SHEET_ROOM = 336
+SHEET_ROOM = 368
 AFTER = 2
+# More bytes than any sheet without field 07 has.
+AMPLE = 336
 # An unknown call ends the program: the one after it gives no line.
 ENDING = bytes([0x0D, 0x00])
 
@@ -42,9 +44,9 @@ CODES = {
 # ---------------------------------------------------------------------------
 
 
-def network(handle, controllers, transceiver=None, times=(2, 5, 3), threshold=1, partial=0):
+def network(handle, controllers, transceiver=None, times=(2, 5, 3), threshold=1, partial=0, relation=model.Relation.ABOVE):
     """The bytes of one network; the times are short delay, long delay and ensure time."""
-    return model.write_network(model.Settings(handle, list(controllers), transceiver, *times, threshold, partial))
+    return model.write_network(model.Settings(handle, list(controllers), transceiver, *times, threshold, partial, relation))
 
 
 # The sheet of the whole case and of the bench cases, which are E1 to E12 of docs/RULES.md.
@@ -58,10 +60,17 @@ PAIR = network(1, [10, 11], times=(1, 4, 2), threshold=0) + network(2, [12, 0], 
 TWO_CHIPS = network(8, [5, 6])
 # Two networks, the first with partial networking: both kinds of first down step.
 MIXED = PARTIAL + SHEET
-# The largest sheet: 8 networks of 4 controllers each, with a transceiver.
-LARGEST = b"".join(
+# The 8 networks of the largest sheets: 4 controllers each, with a transceiver.
+LARGE = [
     network(255 - n, range(4 * n, 4 * n + 4), n, times=(65535, 1, 256), threshold=254, partial=n % 2) for n in range(8)
-)
+]
+# The largest sheet without field 07.
+LARGEST = b"".join(LARGE)
+# Field 07, the long delay at the threshold too: alone, behind a network, behind each of the largest ones, and behind one of two that are else alike.
+NEWER_RULE = bytes.fromhex("07000101")
+BY_NEWER_RULE = SHEET + NEWER_RULE
+LARGEST_BY_NEWER_RULE = b"".join(each + NEWER_RULE for each in LARGE)
+BOTH_RULES = network(1, [10], threshold=2) + network(2, [11], threshold=2) + NEWER_RULE
 
 # ---------------------------------------------------------------------------
 # Runs of calls
@@ -137,9 +146,9 @@ WRONG_CALLS = [
 
 REFUSALS = [
     # Before reading every call but reading is refused with 01, also where other refusals would apply.
-    [("new",), ("start",), ("write", 0), ("write", SHEET_ROOM), *WRONG_CALLS],
+    [("new",), ("start",), ("write", 0), ("write", AMPLE), *WRONG_CALLS],
     # Before the start too; start and writing then have their sheet. Writing needs 25 bytes.
-    [("new",), ("read", SHEET), *WRONG_CALLS, ("write", 0), ("write", 24), ("write", 25), ("write", SHEET_ROOM)],
+    [("new",), ("read", SHEET), *WRONG_CALLS, ("write", 0), ("write", 24), ("write", 25), ("write", AMPLE)],
     # After the start: a second start, reading (of a good sheet and of none), writing.
     [
         *begun(SHEET), ("start",), ("read", SHEET), ("read", b""), ("read", b"\x99"), ("write", 24), ("write", 25),
@@ -180,14 +189,14 @@ REFUSALS = [
     [*begun(SHEET), ("transceiver", 0, 0), ("clear", 0), ("check", 0)],
     # Poll: an unknown handle; a controller's id is none.
     [*begun(SHEET), ("poll", 3), ("poll", 255), ("poll", 7)],
-    # The sheet's own refusals: no network; cut; unknown tag; wrong length; wrong order; used before;
+    # The sheet's own refusals: no network; cut; wrong length, of field 07 and of a handle; wrong order; used before;
     # out of range; partial networking without transceiver; a ninth network. Then there is no sheet still.
     [
         ("new",), ("read", b""), ("read", SHEET[:24]), ("read", SHEET[:21]), ("read", SHEET[:23]), ("read", b"\x07" + SHEET),
         ("read", b"\x01\x00\x02" + SHEET[3:]), ("read", SHEET[4:]), ("read", SHEET[:8] + SHEET[4:]),
         ("read", SHEET[:11] + b"\x00\x00" + SHEET[13:]), ("read", SHEET[:20] + b"\xff" + SHEET[21:]),
         ("read", SHEET[:24] + b"\x01"), ("read", SHEET + SHEET), ("read", LARGEST + network(0, [0])),
-        ("start",), ("write", SHEET_ROOM),
+        ("start",), ("write", AMPLE),
     ],
 ]
 
@@ -234,17 +243,17 @@ TWO_NETWORKS = [
     ],
     # A refused reading keeps the old sheet; reading again before the start replaces it.
     [
-        ("new",), ("read", PAIR), ("read", PAIR[:-1]), ("write", SHEET_ROOM), ("read", MIXED), ("write", SHEET_ROOM),
-        ("read", b""), ("write", SHEET_ROOM), ("start",), ("read", PAIR), ("write", SHEET_ROOM), ("tick", 20), ("tick", 21),
+        ("new",), ("read", PAIR), ("read", PAIR[:-1]), ("write", AMPLE), ("read", MIXED), ("write", AMPLE),
+        ("read", b""), ("write", AMPLE), ("start",), ("read", PAIR), ("write", AMPLE), ("tick", 20), ("tick", 21),
         ("poll", 1), ("poll", 7), ("poll", 20), ("clear", 5), ("answer", 3, 0, 1), TICK, ("answer", 10, 0, 1),
     ],
     # The largest sheet: 328 bytes, and a tick that needs the whole buffer.
     [
-        ("new",), ("read", LARGEST), ("write", 327), ("write", 328), ("write", SHEET_ROOM), ("start",), ("tick", 143), TICK,
+        ("new",), ("read", LARGEST), ("write", 327), ("write", 328), ("write", AMPLE), ("start",), ("tick", 143), TICK,
         ("clear", 1), ("transceiver", 7, 1), ("answer", 31, 0, 1), ("answer", 0, 0, 1), ("poll", 255), ("poll", 248), TICK,
     ],
     # A new manager has nothing of the one before.
-    [("new",), ("poll", 255), ("write", SHEET_ROOM)],
+    [("new",), ("poll", 255), ("write", AMPLE)],
 ]
 
 STALLS = [
@@ -414,10 +423,80 @@ ONE_FAULT_OF_TWO_CHIPS = [
     ],
 ]
 
+FIELD_07 = [
+    # Sheets with it: the smallest, which needs 29 bytes; read again without it, refused with it, and read again with it.
+    [
+        ("new",), ("read", BY_NEWER_RULE), ("write", 28), ("write", 29), ("write", SHEET_ROOM), ("read", SHEET), ("write", 25),
+        ("read", BY_NEWER_RULE + NEWER_RULE), ("write", SHEET_ROOM), ("read", BY_NEWER_RULE), ("start",), ("read", SHEET), ("write", 28),
+        ("write", 29), ("write", 0xFFFF),
+    ],
+    # The largest sheet of all: 360 bytes, before the start and after it. The ticks need no more than before.
+    [
+        ("new",), ("read", LARGEST_BY_NEWER_RULE), ("write", 328), ("write", 359), ("write", 360), ("write", 361), ("write", SHEET_ROOM),
+        ("start",), ("write", 359), ("write", 360), ("tick", 143), TICK, ("poll", 255), ("poll", 248),
+    ],
+    # In one of two networks: each is written as it was read.
+    [
+        ("new",), ("read", BOTH_RULES), ("write", 53), ("write", 54), ("read", BOTH_RULES[25:] + BOTH_RULES[:25]), ("write", 54),
+        ("read", LARGEST + NEWER_RULE), ("write", 331), ("write", 332),
+    ],
+    # Its refusals: at the start; before field 06; twice; other values; other lengths; cut. The order of the tests: the length first, then the
+    # cut, the order, the range.
+    [
+        ("new",), ("read", NEWER_RULE), ("read", NEWER_RULE + SHEET), ("read", SHEET[:4] + NEWER_RULE), ("read", SHEET[:8] + NEWER_RULE),
+        ("read", SHEET[:17] + NEWER_RULE), ("read", SHEET[:21] + NEWER_RULE + SHEET[21:]), ("read", BY_NEWER_RULE + NEWER_RULE),
+        ("read", BY_NEWER_RULE + b"\x07\x00\x01\x02"), ("read", SHEET + b"\x07\x00\x01\x00"), ("read", SHEET + b"\x07\x00\x01\x02"),
+        ("read", SHEET + b"\x07\x00\x01\xff"), ("read", SHEET + b"\x07\x00\x00"), ("read", SHEET + b"\x07\x00\x02\x01\x01"),
+        ("read", SHEET + b"\x07\x00\x02"), ("read", SHEET + b"\x07\x00\x01"), ("read", SHEET + b"\x07\x00"), ("read", SHEET + b"\x07"),
+        ("read", BY_NEWER_RULE[:28]), ("read", BY_NEWER_RULE + SHEET[4:]), ("read", BY_NEWER_RULE + SHEET), ("read", BY_NEWER_RULE + b"\x01"),
+        ("read", LARGEST_BY_NEWER_RULE + NEWER_RULE), ("read", LARGEST_BY_NEWER_RULE + network(0, [0])), ("start",), ("write", SHEET_ROOM),
+    ],
+    # The tag above it is unknown.
+    [("new",), ("read", b"\x08" + SHEET), ("read", SHEET + b"\x08\x00\x01\x01"), ("read", BY_NEWER_RULE + b"\x08\x00\x01\x01")],
+]
+
+
+def recovered(delay):
+    """From a bus-off to full, told on the tick of the delay and two and not before."""
+    return [BUS_OFF, *RESTARTED, *ticks(delay - 1), ("poll", 7), TICK, ("poll", 7)]
+
+
+def fallen(threshold, relation, delays):
+    """Up, and one bus-off after the other, each when full is told again, with these delays; then passed, and once more the first delay."""
+    sheet = network(7, [3], threshold=threshold, relation=relation)
+    recoveries = [call for delay in delays for call in recovered(delay)]
+    return [*begun(sheet), *DOWN, *UP, *recoveries, *CHECKED, *recovered(delays[0])]
+
+
+AT_THE_THRESHOLD = [
+    # One bus-off below the threshold, one at it, one above it: by the newer rule the second has the long delay, by the older the third.
+    fallen(2, model.Relation.AT_OR_ABOVE, [2, 5, 5]),
+    fallen(2, model.Relation.ABOVE, [2, 2, 5]),
+    # The threshold 1: by the newer rule the first bus-off has the long delay.
+    fallen(1, model.Relation.AT_OR_ABOVE, [5, 5]),
+    fallen(1, model.Relation.ABOVE, [2, 5]),
+    # The threshold 0: every bus-off has the long delay, by both.
+    fallen(0, model.Relation.AT_OR_ABOVE, [5]),
+    fallen(0, model.Relation.ABOVE, [5]),
+    # Two networks that are alike but for field 07, and all that befalls them is alike: at the threshold of 2 they part.
+    [
+        *begun(BOTH_RULES), TICK, *answers([10, 11], 0), TICK, *answers([10, 11], 2), TICK, ("request", 1, 2), ("request", 2, 2), TICK,
+        *answers([10, 11], 0), TICK, *answers([10, 11], 1), TICK, ("bus-off", 10, 9), ("bus-off", 11, 9), TICK, *answers([10, 11], 1), *ticks(2),
+        ("poll", 1), ("poll", 2), TICK, ("poll", 1), ("poll", 2), ("bus-off", 10, 9), ("bus-off", 11, 9), TICK, *answers([10, 11], 1), *ticks(2),
+        ("poll", 1), ("poll", 2), TICK, ("poll", 1), ("poll", 2), *ticks(2), ("poll", 2), TICK, ("poll", 1), ("poll", 2),
+    ],
+    # By the newer rule, two chips: reports of one fault in step 6 are not counted, so one fault does not come up to the threshold of 2.
+    [
+        *begun(network(8, [5, 6], threshold=2, relation=model.Relation.AT_OR_ABOVE)), *BOTH_UP[3:], *FAULT, ("bus-off", 5, 9), *BOTH_RESTARTED,
+        TICK, ("poll", 8), TICK, ("poll", 8), *FAULT, *BOTH_RESTARTED, *ticks(4), ("poll", 8), TICK, ("poll", 8),
+    ],
+]
+
 CALLS = [
     call
     for cases in (
-        WHOLE_CASE, BENCH_CASES, REFUSALS, PARTIAL_NETWORKING, TWO_NETWORKS, STALLS, SILENT_TOLD_APART, ONE_FAULT_OF_TWO_CHIPS,
+        WHOLE_CASE, BENCH_CASES, REFUSALS, PARTIAL_NETWORKING, TWO_NETWORKS, STALLS, SILENT_TOLD_APART, ONE_FAULT_OF_TWO_CHIPS, FIELD_07,
+        AT_THE_THRESHOLD,
     )
     for case in cases
     for call in case

@@ -8,6 +8,7 @@ Run as a program it does what `cantrace` does: recorded input in, lines out.
 
 import sys
 from dataclasses import dataclass, field
+from enum import Enum
 from typing import Iterator, List, NamedTuple, Optional, Tuple
 
 # ---------------------------------------------------------------------------
@@ -160,17 +161,26 @@ class Outfit:
     PARTIAL_NETWORKING = 2
 
 
+class Relation(Enum):
+    """How a count of bus-offs is held against the threshold."""
+
+    # S8, S27: the older rule, where there is no field 07, and the newer one, which is its value
+    ABOVE = 0
+    AT_OR_ABOVE = 1
+
+
 class Tag:
     """The tags of the settings sheet; NONE stands before the first field."""
 
     NONE = 0x00
-    # S4 to S9: a tag for each field of the table
+    # S4 to S9, S27: a tag for each field of the table
     HANDLE = 0x01
     CONTROLLER = 0x02
     TRANSCEIVER = 0x03
     TIMES = 0x04
     THRESHOLD = 0x05
     PARTIAL_NETWORKING = 0x06
+    RELATION = 0x07
 
 
 class EventTag:
@@ -219,7 +229,7 @@ class Limit:
     PROGRAM_BUFFER_BYTES = 144
 
 
-# S4 to S9: how many bytes the value of each field has
+# S4 to S9, S27: how many bytes the value of each field has
 LENGTH_OF_TAG = {
     Tag.HANDLE: 1,
     Tag.CONTROLLER: 1,
@@ -227,9 +237,10 @@ LENGTH_OF_TAG = {
     Tag.TIMES: 6,
     Tag.THRESHOLD: 1,
     Tag.PARTIAL_NETWORKING: 1,
+    Tag.RELATION: 1,
 }
 
-# S2, S3, S19: which fields may follow which; the bytes may also end after the last of a network
+# S2, S3, S19, S27: which fields may follow which
 ALLOWED_AFTER = {
     Tag.NONE: (Tag.HANDLE,),
     Tag.HANDLE: (Tag.CONTROLLER,),
@@ -237,8 +248,11 @@ ALLOWED_AFTER = {
     Tag.TRANSCEIVER: (Tag.TIMES,),
     Tag.TIMES: (Tag.THRESHOLD,),
     Tag.THRESHOLD: (Tag.PARTIAL_NETWORKING,),
-    Tag.PARTIAL_NETWORKING: (Tag.HANDLE,),
+    Tag.PARTIAL_NETWORKING: (Tag.RELATION, Tag.HANDLE),
+    Tag.RELATION: (Tag.HANDLE,),
 }
+# S2, S27: the fields with which a network is whole, so that the bytes may also end after them
+ENDING_TAGS = (Tag.PARTIAL_NETWORKING, Tag.RELATION)
 
 # C7 to C14, C22: how many bytes the value of each event has
 LENGTH_OF_EVENT = {
@@ -307,6 +321,7 @@ class Settings:
     ensure_time: int = 0
     threshold: int = 0
     partial_networking: int = 0
+    relation: Relation = Relation.ABOVE
 
 
 class Reading(NamedTuple):
@@ -366,6 +381,9 @@ def value_in_range(tag: int, value: bytes) -> bool:
     # S9: partial networking is 0 or 1
     if tag == Tag.PARTIAL_NETWORKING:
         return value[0] <= 1
+    # S27: of the two relations the field says the newer one alone
+    if tag == Tag.RELATION:
+        return value[0] == Relation.AT_OR_ABOVE.value
     # S4: a handle may be any byte
     return True
 
@@ -428,6 +446,8 @@ def keep_field(tag: int, value: bytes, networks: List[Settings]) -> None:
         networks[-1].threshold = value[0]
     elif tag == Tag.PARTIAL_NETWORKING:
         networks[-1].partial_networking = value[0]
+    elif tag == Tag.RELATION:
+        networks[-1].relation = Relation(value[0])
 
 
 def read_sheet(data: bytes) -> Reading:
@@ -454,7 +474,7 @@ def read_sheet(data: bytes) -> Reading:
     if not networks:
         return Reading(Refusal.SHEET_NO_NETWORK, 0, [])
     # S26: the bytes end within a network
-    if last_tag != Tag.PARTIAL_NETWORKING:
+    if last_tag not in ENDING_TAGS:
         return Reading(Refusal.SHEET_CUT, len(data), [])
     # R5: the place of an accepted reading is the length of the sheet
     return Reading(ACCEPTED, len(data), networks)
@@ -481,6 +501,9 @@ def write_network(network: Settings) -> bytes:
     written += write_field(Tag.TIMES, times)
     written += write_field(Tag.THRESHOLD, bytes([network.threshold]))
     written += write_field(Tag.PARTIAL_NETWORKING, bytes([network.partial_networking]))
+    # S27: the field stands just where the newer rule holds
+    if network.relation == Relation.AT_OR_ABOVE:
+        written += write_field(Tag.RELATION, bytes([network.relation.value]))
     return written
 
 
@@ -763,6 +786,15 @@ def refusal_is_present(network: NetworkRecord) -> bool:
     return any(answer is False for answer in network.answers)
 
 
+def brings_long_delay(settings: Settings, bus_off_count: int) -> bool:
+    """Whether so many bus-offs bring the long delay, by the network's own rule."""
+    # S27: by the newer rule at the threshold too
+    if settings.relation == Relation.AT_OR_ABOVE:
+        return bus_off_count >= settings.threshold
+    # S8: by the older rule above it alone
+    return bus_off_count > settings.threshold
+
+
 def timer_is_reached(network: NetworkRecord) -> bool:
     """Whether this tick reaches the time that the step waits for."""
     settings = network.settings
@@ -770,10 +802,10 @@ def timer_is_reached(network: NetworkRecord) -> bool:
     # T10: the ensure time
     if network.step == Step.CHECKING:
         return risen >= settings.ensure_time
-    # S8, T13: the long delay where the count is above the threshold, else the short one
+    # T13: the long delay where the count brings it, else the short one
     if network.step == Step.WAITING:
-        above_threshold = network.bus_off_count > settings.threshold
-        return risen >= (settings.long_delay if above_threshold else settings.short_delay)
+        is_long = brings_long_delay(settings, network.bus_off_count)
+        return risen >= (settings.long_delay if is_long else settings.short_delay)
     return False
 
 

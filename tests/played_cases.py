@@ -7,9 +7,9 @@ from typing import Iterator, List, Tuple
 
 import coverage
 import model
-from model import ControllerMode, EventTag, Limit, Mode, Outfit, Step
-from traces import BENCH_NETWORK, FULL_STEPS, LARGEST, NOT_OK, OF_OUTFIT, OK, RESET_STEPS, SHEET, TICK, WHOLE_CASE
-from traces import Case, Trace, answer_to, arrange, network
+from model import ControllerMode, EventTag, Limit, Mode, Outfit, Relation, Step
+from traces import BENCH_NETWORK, FULL_STEPS, LARGEST, LARGEST_BY_THE_NEWER_RULE, NOT_OK, OF_OUTFIT, OK, RESET_STEPS, SHEET, TICK, WHOLE_CASE
+from traces import Case, Trace, answer_to, arrange, by_the_newer_rule, network
 
 UNKNOWN_ID = 99
 
@@ -208,9 +208,9 @@ def short_long_short() -> bytes:
     return trace.recorded()
 
 
-def two_recoveries(times: Tuple[int, int, int], threshold: int) -> bytes:
+def two_recoveries(times: Tuple[int, int, int], threshold: int, relation: Relation = Relation.ABOVE) -> bytes:
     """Two bus-offs and their recoveries, with these times and this threshold."""
-    trace = Trace(network(7, [3], times=times, threshold=threshold))
+    trace = Trace(network(7, [3], times=times, threshold=threshold, relation=relation))
     trace.go_to(Step.FULL)
     for _ in range(2):
         trace.bus_off()
@@ -219,9 +219,9 @@ def two_recoveries(times: Tuple[int, int, int], threshold: int) -> bytes:
     return trace.recorded()
 
 
-def many_bus_offs(number: int, in_step: int) -> bytes:
+def many_bus_offs(number: int, in_step: int, relation: Relation = Relation.ABOVE) -> bytes:
     """So many bus-offs at the threshold 254, all but the first in this step, then the delay; after passed one more bus-off."""
-    trace = Trace(network(7, [3], times=(1, 4, 2), threshold=254))
+    trace = Trace(network(7, [3], times=(1, 4, 2), threshold=254, relation=relation))
     trace.go_to(Step.FULL)
     trace.bus_off()
     for _ in range(number - 1):
@@ -284,9 +284,9 @@ def bus_offs_in_coming_up() -> bytes:
     return trace.recorded()
 
 
-def count_through(step: int) -> bytes:
+def count_through(step: int, settings: model.Settings = BENCH_NETWORK) -> bytes:
     """The way through this step and back to full keeps the count: the second bus-off has the long delay."""
-    trace = Trace(BENCH_NETWORK)
+    trace = Trace(settings)
     trace.go_to(Step.FULL)
     trace.bus_off()
     recover(trace)
@@ -1157,3 +1157,103 @@ def two_chip_cases() -> Iterator[Case]:
     yield Case("four chips report one fault", fault_of_four_chips())
     for number in (254, 255, 256):
         yield Case(f"{number} faults at the threshold 254", many_bus_offs(number, Step.WAITING))
+
+
+# ---------------------------------------------------------------------------
+# At the threshold or above it: field 07
+# ---------------------------------------------------------------------------
+
+# Three networks that differ in field 07 and in ids: a bus-off of each comes up to the threshold, and does not exceed it.
+OLDER, NEWER, NEWER_TOO = network(1, [10]), by_the_newer_rule(network(2, [11])), by_the_newer_rule(network(3, [12]))
+
+
+def falls_one_by_one(threshold: int, relation: Relation, number: int) -> bytes:
+    """So many bus-offs, each when full is told again and before passed; in the last wait a poll after each tick. Short delay 2, long delay 5."""
+    trace = Trace(network(7, [3], threshold=threshold, relation=relation))
+    trace.go_to(Step.FULL)
+    for _ in range(number - 1):
+        trace.bus_off()
+        recover(trace)
+    trace.bus_off()
+    for _ in range(7):
+        trace.replied_tick()
+        trace.poll()
+    trace.go_to(Step.FULL)
+    return trace.recorded()
+
+
+def side_by_side(*networks: model.Settings) -> bytes:
+    """All are up, and each has the same events at the same time, twice a bus-off; polls after each tick show where they part."""
+    trace = Trace(*networks)
+    up_together(trace)
+    for _ in range(2):
+        for index in range(len(networks)):
+            trace.bus_off(index)
+        for _ in range(8):
+            trace.replied_tick()
+            poll_all(trace)
+    return trace.recorded()
+
+
+def recovery_of_outfit(outfit: int) -> bytes:
+    """By the newer rule a network of this outfit: up, a bus-off at the threshold, passed, a stall, a bus-off in step 7, and down."""
+    trace = Trace(by_the_newer_rule(OF_OUTFIT[outfit]))
+    trace.go_to(Step.FULL)
+    trace.bus_off(controller=1)
+    recover(trace)
+    trace.go_to(Step.FULL)
+    reset(trace)
+    trace.go_to(Step.WAITING)
+    trace.bus_off()
+    recover(trace)
+    trace.go_to(Step.NO_COMMUNICATION)
+    return trace.recorded()
+
+
+def reports_below_the_threshold() -> bytes:
+    """By the newer rule with the threshold 2: one fault that both chips report five times is one; a second one comes up to the threshold."""
+    trace = Trace(by_the_newer_rule(network(7, [3, 12], threshold=2)))
+    trace.go_to(Step.FULL)
+    reports(trace, 0, 1, 0, 1, 1)
+    recover(trace)
+    reports(trace, 1, 0)
+    recover(trace)
+    return trace.recorded()
+
+
+def silent_at_the_threshold() -> bytes:
+    """By the newer rule a bus-off in step 8, with silent wanted to the end of the long delay, and then full."""
+    trace = Trace(by_the_newer_rule(BENCH_NETWORK))
+    trace.go_to(Step.SILENT)
+    trace.bus_off()
+    trace.replied_tick(7)
+    trace.poll()
+    trace.want(Mode.FULL)
+    trace.tick()
+    trace.poll()
+    return trace.recorded()
+
+
+def threshold_cases() -> Iterator[Case]:
+    """By both rules a bus-off below the threshold, at it and above it; the ends of its range; and networks of both rules in one sheet."""
+    for name, relation in (("older", Relation.ABOVE), ("newer", Relation.AT_OR_ABOVE)):
+        for threshold in (0, 1, 2):
+            for number in range(max(threshold - 1, 1), threshold + 2):
+                yield Case(f"{name} rule, threshold {threshold}, bus-offs: {number}", falls_one_by_one(threshold, relation, number))
+    newer = Relation.AT_OR_ABOVE
+    for number in (253, 254, 256):
+        yield Case(f"newer rule, {number} faults at the threshold 254", many_bus_offs(number, Step.WAITING, newer))
+    yield Case("newer rule, long delay below the short one", two_recoveries((6, 1, 2), 1, newer))
+    yield Case("newer rule, all times 1", two_recoveries((1, 1, 1), 1, newer))
+    for step, words in ((Step.NO_COMMUNICATION, "a shutdown"), (Step.SILENT, "silent"), (Step.RESET_STARTED, "a reset")):
+        yield Case(f"newer rule, the count through {words}", count_through(step, by_the_newer_rule(network(7, [3], threshold=2))))
+    yield Case("newer rule, one fault of two chips below the threshold", reports_below_the_threshold())
+    yield Case("newer rule, a bus-off in silent", silent_at_the_threshold())
+    for outfit, name in coverage.OUTFIT_NAMES.items():
+        yield Case(f"{name}, newer rule", recovery_of_outfit(outfit))
+    yield Case("both rules in one sheet, the older first", side_by_side(OLDER, NEWER))
+    yield Case("both rules in one sheet, the newer first", side_by_side(NEWER, OLDER))
+    yield Case("both rules in one sheet, the older in the middle", side_by_side(NEWER, OLDER, NEWER_TOO))
+    yield Case("eight networks by the newer rule, the largest sheet", side_by_side(*LARGEST_BY_THE_NEWER_RULE))
+    mixed = [by_the_newer_rule(settings) if place % 2 else settings for place, settings in enumerate(LARGEST)]
+    yield Case("eight networks, every second by the newer rule", side_by_side(*mixed))

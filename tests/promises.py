@@ -7,7 +7,7 @@ names of the definitions (`up`, `rested`, `on`, `awaited`, `runs`), and `broken`
 from dataclasses import dataclass
 from typing import Callable, List, NamedTuple, Optional, Set, Tuple
 
-from model import ACCEPTED, ControllerMode, EventManagerNotice, Kind, Limit, Mode, ModeManagerNotice, PduMode, Record, Refusal, Settings
+from model import ACCEPTED, ControllerMode, EventManagerNotice, Kind, Limit, Mode, ModeManagerNotice, PduMode, Record, Refusal, Relation, Settings
 from model import TransceiverMode
 
 TICK = "tick"
@@ -216,7 +216,10 @@ class Words:
         return count
 
     def delay_at(self, history: History) -> int:
-        return self.network.long_delay if self.falls(history) > self.network.threshold else self.network.short_delay
+        """The long delay where those that count exceed the threshold; by the newer rule of a network, where they come up to it."""
+        threshold, falls = self.network.threshold, self.falls(history)
+        is_long = threshold <= falls if self.network.relation == Relation.AT_OR_ABOVE else threshold < falls
+        return self.network.long_delay if is_long else self.network.short_delay
 
     def owed(self, history: History) -> int:
         """The delay that the last setback brings: that of a bus-off while up, else none."""

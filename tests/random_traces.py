@@ -12,7 +12,7 @@ from random import Random
 from typing import Callable, Dict, List, NamedTuple, Tuple
 
 import model
-from model import EventTag, Limit, Mode, Outfit, Step
+from model import EventTag, Limit, Mode, Outfit, Relation, Step, Tag
 from traces import NOT_OK, Event, Trace, answer_to, field
 
 
@@ -35,7 +35,7 @@ def random_times(random: Random) -> Tuple[int, int, int]:
 
 
 def random_networks(random: Random) -> List[model.Settings]:
-    """One to eight networks of all outfits, with ids from the whole ranges."""
+    """One to eight networks of all outfits and by both rules for the threshold, with ids from the whole ranges."""
     number = random.choice((1, 1, 1, 1, 2, 2, 2, 3, 3, 4, 5, 6, 7, 8))
     handles = random.sample(range(256), number)
     controllers = random.sample(range(Limit.CONTROLLER_ID + 1), Limit.CONTROLLER_ID + 1)
@@ -52,6 +52,7 @@ def random_networks(random: Random) -> List[model.Settings]:
                 *random_times(random),
                 random.choice((0, 0, 1, 1, 2, 3, 254, random.randint(0, Limit.THRESHOLD))),
                 1 if outfit == Outfit.PARTIAL_NETWORKING else 0,
+                random.choice(tuple(Relation)),
             )
         )
     return networks
@@ -295,7 +296,7 @@ def broken_sheet(random: Random, sheet: bytes) -> bytes:
     """A sheet in good order of fields that breaks a rule on what they say, or nearly so."""
     networks = model.read_sheet(sheet).networks
     chosen, other = random.choice(networks), random.choice(networks)
-    way = random.randrange(7)
+    way = random.randrange(8)
     if way == 0:
         networks.append(deepcopy(chosen))
     elif way == 1:
@@ -308,6 +309,8 @@ def broken_sheet(random: Random, sheet: bytes) -> bytes:
         networks = [model.Settings(number, [number], None, 1, 1, 1) for number in range(random.randint(8, 10))]
     elif way == 5:
         chosen.transceiver, chosen.partial_networking = None, 1
+    elif way == 6:
+        return model.write_sheet(networks) + field(Tag.RELATION, random.choice((0, 1, 1, 2, 255)))
     else:
         edge_value(random, chosen)
     return model.write_sheet(networks)

@@ -20,7 +20,7 @@ CASE_FILE = Path(__file__).resolve().parent / "sheet_cases.txt"
 PRODUCT_FOLDER = Path(__file__).resolve().parent.parent / "crates" / "sheet_cases"
 FIRST_LINE = "expected output made by: python3 tests/sheet_cases.py"
 FILL_BYTE = 0xEE
-WRITE_BUFFER_BYTES = 336
+WRITE_BUFFER_BYTES = 368
 LARGEST_INPUT_BYTES = 30000
 LINES_SHOWN = 20
 
@@ -92,12 +92,13 @@ def product_input(cases: List[Case]) -> bytes:
 
 
 def network_line(number: int, network: model.Settings) -> str:
-    """Handle, controllers, transceiver or `-`, short, long, ensure time, threshold, PN."""
+    """Handle, controllers, transceiver or `-`, short, long, ensure time, threshold, PN; by the newer rule for the threshold a 1 more."""
     controllers = ",".join(str(controller) for controller in network.controllers)
     transceiver = "-" if network.transceiver is None else str(network.transceiver)
+    relation = " 1" if network.relation == model.Relation.AT_OR_ABOVE else ""
     return (
         f"{number} net {network.handle} {controllers} {transceiver} {network.short_delay} "
-        f"{network.long_delay} {network.ensure_time} {network.threshold} {network.partial_networking}"
+        f"{network.long_delay} {network.ensure_time} {network.threshold} {network.partial_networking}{relation}"
     )
 
 

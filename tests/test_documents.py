@@ -560,6 +560,7 @@ class Documents(unittest.TestCase):
         self.assertIn(script.splitlines(), shown)
         for example, begin, length in (
             ("first", "11 0 ", 6), ("stall", "14 0 ", 10), ("silent", "7 8 ", 2), ("silent", "11 36 ", 2), ("silent", "22 37 ", 2),
+            ("two-chips", "16 0 ", 7),
         ):
             explained = [sys.executable, "-B", "tools/recording", "explain", f"examples/{example}.script", f"examples/{example}.txt"]
             words = subprocess.run(explained, cwd=ROOT, stdout=subprocess.PIPE, check=True).stdout.decode().splitlines()
@@ -567,6 +568,13 @@ class Documents(unittest.TestCase):
             with self.subTest(example, begin=begin):
                 self.assertEqual([len(block) for block in quoted], [length])
                 self.assertIn("\n".join(quoted[0]), "\n".join(words))
+
+    def test_outputs_side_by_side_are_those_shown(self):
+        left, right = [(ROOT / "examples" / f"{name}-the-threshold.txt").read_text(encoding="utf-8").splitlines() for name in ("at", "above")]
+        beside = [f"{one:<26}{other}" for one, other in zip(left, right)]
+        quoted = [block for block in indented_blocks(documents()["README.md"]) if block and block[0].startswith("20 0 8:7:1")]
+        self.assertEqual([len(block) for block in quoted], [13])
+        self.assertIn("\n".join(quoted[0]), "\n".join(beside))
 
 
 class FaultsAreFound(unittest.TestCase):

@@ -8,13 +8,16 @@ import random
 import unittest
 from copy import deepcopy
 
+import manager_cases
 import model
 import sheet_cases
-from model import Kind, Manager, Mode, Outfit
+from model import Kind, Manager, Mode, Outfit, Relation
 
 BENCH_SHEET = bytes.fromhex("01000107 02000103 040006000200050003 05000101 06000100")
 TRANSCEIVER_SHEET = bytes.fromhex("01000107 02000103 02000104 03000105 040006000200050003 05000101 06000100")
 PARTIAL_SHEET = bytes.fromhex("01000109 02000101 02000102 03000106 040006000200050003 05000101 06000101")
+SECOND_SHEET = bytes.fromhex("01000108 02000104 040006000200050003 05000101 06000100")
+FIELD_07 = bytes.fromhex("07000101")
 LARGE_BUFFER = 144
 UP_STEPS = (4, 5, 6, 7, 8, 15, 16)
 
@@ -444,7 +447,7 @@ class SheetList(unittest.TestCase):
                 with self.subTest(case=case.name):
                     self.assertEqual(model.write_sheet(reading.networks), case.sheet)
                     self.assertEqual(reading.place, len(case.sheet))
-                    self.assertTrue(25 <= len(case.sheet) <= 328)
+                    self.assertTrue(25 <= len(case.sheet) <= 360)
 
     def test_settings_of_the_sheet_with_partial_networking(self):
         networks = model.read_sheet(PARTIAL_SHEET).networks
@@ -459,6 +462,133 @@ class SheetList(unittest.TestCase):
             "2 short 32 0 eeeeeeee",
         ])
         self.assertEqual(sheet_cases.case_lines(1, sheet_cases.Case("", "", b"")), ["1 56 0 0"])
+
+
+def large_network(number):
+    """The bytes of the largest network without field 07, 41 of them; ids by the number."""
+    controllers = b"".join(bytes([2, 0, 1, 4 * number + place]) for place in range(4))
+    return bytes([1, 0, 1, number]) + controllers + bytes([3, 0, 1, number]) + bytes.fromhex("040006ffffffffffff 050001fe 06000101")
+
+
+class Field07(unittest.TestCase):
+    """S27: the field that says the newer rule, in the sheet."""
+
+    # Where the bench sheet's fields begin.
+    FIELDS = (0, 4, 8, 17, 21)
+    EIGHT = [large_network(number) for number in range(8)]
+
+    def reading(self, *parts):
+        reading = model.read_sheet(b"".join(parts))
+        return reading.refusal, reading.place, len(reading.networks)
+
+    def relations(self, sheet):
+        return [network.relation for network in model.read_sheet(sheet).networks]
+
+    def test_a_network_has_the_older_rule_without_it_and_the_newer_with_it(self):
+        older, newer = Relation.ABOVE, Relation.AT_OR_ABOVE
+        self.assertEqual(self.relations(BENCH_SHEET), [older])
+        self.assertEqual(self.relations(BENCH_SHEET + FIELD_07), [newer])
+        self.assertEqual(self.relations(BENCH_SHEET + FIELD_07 + SECOND_SHEET), [newer, older])
+        self.assertEqual(self.relations(BENCH_SHEET + SECOND_SHEET + FIELD_07), [older, newer])
+        self.assertEqual(self.relations(BENCH_SHEET + FIELD_07 + SECOND_SHEET + FIELD_07), [newer, newer])
+
+    def test_all_else_is_as_without_it(self):
+        for sheet in (BENCH_SHEET, TRANSCEIVER_SHEET, PARTIAL_SHEET):
+            [with_it] = model.read_sheet(sheet + FIELD_07).networks
+            with_it.relation = Relation.ABOVE
+            self.assertEqual([with_it], model.read_sheet(sheet).networks)
+
+    def test_it_is_out_of_order_first_and_within_a_network(self):
+        for place in self.FIELDS:
+            for value in (0, 1, 2):
+                with self.subTest(place=place, value=value):
+                    field = bytes([7, 0, 1, value])
+                    self.assertEqual(self.reading(BENCH_SHEET[:place], field), (0x33, place, 0))
+                    self.assertEqual(self.reading(BENCH_SHEET[:place], field, BENCH_SHEET[place:]), (0x33, place, 0))
+                    self.assertEqual(self.reading(BENCH_SHEET, FIELD_07, SECOND_SHEET[:place], field), (0x33, 29 + place, 0))
+        self.assertEqual(self.reading(TRANSCEIVER_SHEET[:16], FIELD_07), (0x33, 16, 0))
+        self.assertEqual(self.reading(TRANSCEIVER_SHEET[:12], FIELD_07), (0x33, 12, 0))
+
+    def test_a_second_one_is_out_of_order(self):
+        for value in (0, 1, 2, 255):
+            self.assertEqual(self.reading(BENCH_SHEET, FIELD_07, bytes([7, 0, 1, value])), (0x33, 29, 0))
+        self.assertEqual(self.reading(BENCH_SHEET, FIELD_07, SECOND_SHEET, FIELD_07, FIELD_07), (0x33, 58, 0))
+
+    def test_its_one_value_is_1(self):
+        for value in range(256):
+            expected = (0, 29, 1) if value == 1 else (0x34, 25, 0)
+            self.assertEqual(self.reading(BENCH_SHEET, bytes([7, 0, 1, value])), expected)
+        self.assertEqual(self.reading(BENCH_SHEET, b"\x07\x00\x01\x00", SECOND_SHEET), (0x34, 25, 0))
+
+    def test_its_length_is_1(self):
+        for field in ("070000", "0700020101", "070002", "07000201", "07010101", "07ffff"):
+            with self.subTest(field=field):
+                self.assertEqual(self.reading(BENCH_SHEET, bytes.fromhex(field)), (0x32, 25, 0))
+                self.assertEqual(self.reading(bytes.fromhex(field), BENCH_SHEET), (0x32, 0, 0))
+                self.assertEqual(self.reading(BENCH_SHEET, FIELD_07, bytes.fromhex(field)), (0x32, 29, 0))
+
+    def test_it_is_cut(self):
+        for field in ("07", "0700", "070001"):
+            with self.subTest(field=field):
+                self.assertEqual(self.reading(BENCH_SHEET, bytes.fromhex(field)), (0x30, 25, 0))
+                self.assertEqual(self.reading(BENCH_SHEET, FIELD_07, bytes.fromhex(field)), (0x30, 29, 0))
+                self.assertEqual(self.reading(BENCH_SHEET[:8], bytes.fromhex(field)), (0x30, 8, 0))
+                self.assertEqual(self.reading(bytes.fromhex(field)), (0x30, 0, 0))
+
+    def test_after_it_come_a_network_or_the_end(self):
+        for place, end in zip(self.FIELDS[1:], (*self.FIELDS[2:], 25)):
+            self.assertEqual(self.reading(BENCH_SHEET, FIELD_07, SECOND_SHEET[place:end]), (0x33, 29, 0))
+        self.assertEqual(self.reading(BENCH_SHEET, FIELD_07, b"\x03\x00\x01\x05"), (0x33, 29, 0))
+        self.assertEqual(self.reading(BENCH_SHEET, FIELD_07, BENCH_SHEET), (0x35, 29, 0))
+        self.assertEqual(self.reading(BENCH_SHEET, FIELD_07, SECOND_SHEET[:4], BENCH_SHEET[4:8]), (0x35, 33, 0))
+        self.assertEqual(self.reading(BENCH_SHEET, FIELD_07, SECOND_SHEET[:21]), (0x30, 50, 0))
+        self.assertEqual(self.reading(BENCH_SHEET, FIELD_07, SECOND_SHEET[:20] + b"\xff"), (0x34, 46, 0))
+        self.assertEqual(self.reading(BENCH_SHEET, FIELD_07, SECOND_SHEET[:24] + b"\x01"), (0x37, 50, 0))
+
+    def test_tag_08_is_unknown(self):
+        for before in (b"", BENCH_SHEET[:8], BENCH_SHEET, BENCH_SHEET + FIELD_07):
+            self.assertEqual(self.reading(before, b"\x08\x00\x01\x01"), (0x31, len(before), 0))
+            self.assertEqual(self.reading(before, b"\x08\xff\xff"), (0x31, len(before), 0))
+
+    def test_after_the_eighth_network(self):
+        self.assertEqual(self.reading(*self.EIGHT, FIELD_07), (0, 332, 8))
+        self.assertEqual(self.reading(*self.EIGHT, b"\x07\x00\x01\x00"), (0x34, 328, 0))
+        self.assertEqual(self.reading(*self.EIGHT, FIELD_07, FIELD_07), (0x33, 332, 0))
+        self.assertEqual(self.reading(*self.EIGHT, FIELD_07, b"\x01\x00\x01\x08"), (0x36, 332, 0))
+        self.assertEqual(self.reading(*self.EIGHT, FIELD_07, b"\x01\x00\x01\x07"), (0x35, 332, 0))
+        self.assertEqual(self.reading(*self.EIGHT, FIELD_07, b"\x02\x00\x01\x00"), (0x33, 332, 0))
+
+    def test_the_largest_sheet_has_360_bytes(self):
+        sheet = b"".join(network + FIELD_07 for network in self.EIGHT)
+        self.assertEqual(len(sheet), 360)
+        self.assertEqual(self.reading(sheet), (0, 360, 8))
+        manager = Manager.new()
+        manager.read(sheet)
+        self.assertEqual((manager.write(359).answer, manager.write(359).sheet), (0x20, b""))
+        self.assertEqual((manager.write(360).answer, manager.write(360).count, manager.write(360).sheet), (0, 360, sheet))
+
+    def test_sheets_are_written_as_they_were_read_whichever_networks_have_it(self):
+        for chosen in range(256):
+            sheet = b"".join(network + (FIELD_07 if chosen >> place & 1 else b"") for place, network in enumerate(self.EIGHT))
+            networks = model.read_sheet(sheet).networks
+            self.assertEqual([network.relation == Relation.AT_OR_ABOVE for network in networks], [bool(chosen >> place & 1) for place in range(8)])
+            self.assertEqual(model.write_sheet(networks), sheet)
+
+    def test_different_rules_have_different_sheets(self):
+        older = model.Settings(7, [3], None, 2, 5, 3, 1, 0)
+        newer = model.Settings(7, [3], None, 2, 5, 3, 1, 0, Relation.AT_OR_ABOVE)
+        self.assertEqual(model.write_sheet([older]), BENCH_SHEET)
+        self.assertEqual(model.write_sheet([newer]), BENCH_SHEET + FIELD_07)
+        self.assertEqual(model.read_sheet(model.write_sheet([newer])).networks, [newer])
+
+    def test_lines_of_a_sheet_with_it(self):
+        case = sheet_cases.Case("", "", BENCH_SHEET + FIELD_07 + SECOND_SHEET)
+        self.assertEqual(sheet_cases.case_lines(4, case)[:3], ["4 0 2 54", "4 net 7 3 - 2 5 3 1 0 1", "4 net 8 4 - 2 5 3 1 0"])
+
+    def test_the_program_takes_it_for_a_field_of_the_sheet(self):
+        self.assertEqual(model.cantrace(BENCH_SHEET + FIELD_07 + b"\x16\x00\x00"), "config 0 1\n1 0 1:3:0\n")
+        self.assertEqual(model.cantrace(BENCH_SHEET + b"\x07\x00\x01\x00\x16\x00\x00"), "config 52 25\n")
+        self.assertEqual(model.cantrace(BENCH_SHEET + b"\x16\x00\x00" + FIELD_07), "config 0 1\n1 0 1:3:0\nstop 28\n")
 
 
 class CallsBeforeTheStart(unittest.TestCase):
@@ -496,9 +626,9 @@ class CallsBeforeTheStart(unittest.TestCase):
         manager.read(BENCH_SHEET)
         refused = manager.read(BENCH_SHEET[:24])
         self.assertEqual((refused.answer, refused.place, refused.count), (0x30, 21, 0))
-        self.assertEqual(manager.write(336).sheet, BENCH_SHEET)
+        self.assertEqual(manager.write(368).sheet, BENCH_SHEET)
         self.assertEqual(manager.read(PARTIAL_SHEET).count, 1)
-        self.assertEqual(manager.write(336).sheet, PARTIAL_SHEET)
+        self.assertEqual(manager.write(368).sheet, PARTIAL_SHEET)
 
     def test_write_before_and_after_the_start(self):
         manager = Manager.new()
@@ -979,6 +1109,124 @@ class Stalls(unittest.TestCase):
         events = "160000 120003030001 160000 120003030201 160000 1000020702 160000 120003030001 160000 120003030101 160000"
         lines = model.cantrace(BENCH_SHEET + bytes.fromhex(events + "18000107 18000107 18000103 160000 120003030001")).splitlines()
         self.assertEqual(lines[-5:], ["12 0 6:7:1", "13 34", "14 3", "15 0 1:3:0", "16 0"])
+
+
+class BothRules(unittest.TestCase):
+    """S8, S27 and T13: the long delay above the threshold, or at it too where field 07 is there."""
+
+    SHORT, LONG = 4, 7  # the delays of the bench sheet, 2 and 5, and two ticks
+
+    def box(self, threshold, newer):
+        sheet = BENCH_SHEET[:20] + bytes([threshold]) + BENCH_SHEET[21:]
+        return box_in_step(5, sheet + (FIELD_07 if newer else b""))
+
+    def recoveries(self, threshold, newer, number):
+        """After each of so many bus-offs, with no passed between two, how many ticks until full."""
+        box = self.box(threshold, newer)
+        found = []
+        for _ in range(number):
+            box.bus_off()
+            found.append(replied_ticks_until_full(box))
+        return found
+
+    def test_below_at_and_above_the_threshold(self):
+        short, long = self.SHORT, self.LONG
+        self.assertEqual(self.recoveries(2, False, 3), [short, short, long])
+        self.assertEqual(self.recoveries(2, True, 3), [short, long, long])
+        self.assertEqual(self.recoveries(1, False, 2), [short, long])
+        self.assertEqual(self.recoveries(1, True, 2), [long, long])
+        self.assertEqual(self.recoveries(4, False, 5), [short, short, short, short, long])
+        self.assertEqual(self.recoveries(4, True, 5), [short, short, short, long, long])
+
+    def test_threshold_0_brings_the_long_delay_by_both(self):
+        self.assertEqual(self.recoveries(0, False, 2), [self.LONG, self.LONG])
+        self.assertEqual(self.recoveries(0, True, 2), [self.LONG, self.LONG])
+
+    def test_the_greatest_threshold_and_the_greatest_count(self):
+        for newer, long_from in ((False, 255), (True, 254)):
+            box = self.box(254, newer)
+            for number in range(1, 301):
+                box.bus_off()
+                box.tick_until(7)
+                count = min(number, 255)
+                self.assertEqual(box.network.bus_off_count, count)
+                self.assertEqual(model.brings_long_delay(box.network.settings, count), count >= long_from)
+            self.assertEqual(replied_ticks_until_full(box), 5)
+
+    def test_full_on_just_that_tick_at_the_greatest_threshold(self):
+        for newer, count, ticks in (
+            (True, 253, self.SHORT), (True, 254, self.LONG), (True, 255, self.LONG), (False, 254, self.SHORT), (False, 255, self.LONG),
+        ):
+            box = self.box(254, newer)
+            box.network.bus_off_count = count - 1
+            box.bus_off()
+            with self.subTest(newer=newer, count=count):
+                self.assertEqual(replied_ticks_until_full(box), ticks)
+
+    def test_every_threshold_and_every_count(self):
+        for threshold in range(255):
+            older, newer = (model.Settings(7, [3], threshold=threshold, relation=relation) for relation in Relation)
+            for count in range(256):
+                self.assertEqual(model.brings_long_delay(older, count), count > threshold)
+                self.assertEqual(model.brings_long_delay(newer, count), count >= threshold)
+
+    def test_passed_counts_from_0_again(self):
+        box = self.box(2, True)
+        for expected in (self.SHORT, self.LONG):
+            box.bus_off()
+            self.assertEqual(replied_ticks_until_full(box), expected)
+        box.tick_until(5)
+        box.bus_off()
+        self.assertEqual(replied_ticks_until_full(box), self.SHORT)
+
+    def test_a_report_in_step_6_is_not_counted_by_the_newer_rule_either(self):
+        box = self.box(2, True)
+        for _ in range(3):
+            box.bus_off()
+        self.assertEqual(replied_ticks_until_full(box), self.SHORT)
+
+    def test_each_network_goes_by_its_own_rule(self):
+        for sheet, expected in (
+            (BENCH_SHEET + SECOND_SHEET + FIELD_07, {7: self.SHORT, 8: self.LONG}),
+            (BENCH_SHEET + FIELD_07 + SECOND_SHEET, {7: self.LONG, 8: self.SHORT}),
+        ):
+            box = Box(sheet)
+            for handle in (7, 8):
+                box.manager.request(handle, Mode.FULL)
+            box.tick_until(5)
+            self.assertEqual([box.manager.poll(handle).mode for handle in (7, 8)], [Mode.FULL] * 2)
+            box.records = []
+            for controller in (3, 4):
+                self.assertEqual(box.manager.bus_off(controller, 9).count, 3)
+            told = {}
+            for number in range(1, 8):
+                told.update({target: number for kind, target, mode in box.replied_tick() if (kind, mode) == (Kind.COMMUNICATION_MANAGER, Mode.FULL)})
+            self.assertEqual(told, expected)
+
+    def test_stored_calls_have_full_on_just_that_tick(self):
+        """The first six runs of them poll before the tick that ends a delay, and after it."""
+        for number, case in enumerate(manager_cases.AT_THE_THRESHOLD[:6], start=1):
+            manager = Manager.new()
+            outcomes = [(call, manager_cases.outcome_of(manager, call)) for call in case if call != ("new",)]
+            polled = [outcome.mode for call, outcome in outcomes if call == ("poll", 7)]
+            with self.subTest(number=number):
+                self.assertEqual({outcome.answer for _, outcome in outcomes}, {0})
+                self.assertEqual((set(polled[::2]), set(polled[1::2])), ({Mode.SILENT}, {Mode.FULL}))
+
+    def test_nothing_else_goes_by_the_rule(self):
+        """A life without a bus-off at the threshold is the same by both, call by call."""
+        for threshold, falls in ((0, 1), (4, 2), (6, 4)):
+            lives = []
+            for newer in (False, True):
+                box = self.box(threshold, newer)
+                answers = []
+                for _ in range(falls):
+                    answers.append(box.bus_off())
+                    answers += [box.replied_tick() for _ in range(8 if threshold == 0 else 5)]
+                for call in (box.stall, lambda: box.manager.request(7, 1), box.bus_off, lambda: box.manager.request(7, 0)):
+                    answers += [call(), box.replied_tick()]
+                lives.append(answers)
+            self.assertEqual(*lives)
 
 
 class Decisions(unittest.TestCase):

@@ -18,7 +18,7 @@ from typing import Dict, List, NamedTuple, Set, Tuple
 import decisions
 import model
 from model import EventTag, Mode, Outfit
-from traces import OF_OUTFIT, SHEET, Trace
+from traces import BENCH_NETWORK, OF_OUTFIT, SHEET, Trace, by_the_newer_rule
 
 ROOT = Path(__file__).resolve().parent.parent
 DOCS = ROOT / "docs"
@@ -381,6 +381,33 @@ class RecoveryTest(unittest.TestCase):
         ):
             self.assertEqual(texts.count(expected), 1, expected)
         self.assertEqual(texts[texts.index("24: tick 7 after the bus-off") + 1], MAY)
+
+    def test_both_rules_for_the_threshold(self):
+        """One bus-off at the threshold of 1: which delay it brings is read off the run, and the text below says by which rule."""
+        below = "Short delay 2, long delay 5, ensure time 3, in ticks. Threshold 1{}. A dotted line is a tick."
+        for settings, delay, words in (
+            (BENCH_NETWORK, "the short delay: 2 ticks", ""),
+            (by_the_newer_rule(BENCH_NETWORK), "the long delay: 5 ticks", ", at which the long delay begins"),
+        ):
+            trace = Trace(settings)
+            trace.go_to(5)
+            trace.bus_off()
+            trace.replied_tick(8)
+            data = trace.recorded()
+            texts = texts_of(recovery_picture.picture_of(data, model.cantrace(data).encode("ascii"), "a recording"))
+            self.assertEqual((texts.count(delay), texts[-1]), (1, below.format(words)))
+
+    def test_the_rule_is_that_of_the_network_drawn(self):
+        first, second = OF_OUTFIT[Outfit.NO_TRANSCEIVER], OF_OUTFIT[Outfit.TRANSCEIVER]
+        for networks, drawn_by_newer in (((first, by_the_newer_rule(second)), True), ((by_the_newer_rule(first), second), False)):
+            trace = Trace(*networks)
+            trace.go_to(5, 1)
+            trace.bus_off(1)
+            trace.replied_tick(8)
+            data = trace.recorded()
+            texts = texts_of(recovery_picture.picture_of(data, model.cantrace(data).encode("ascii"), "a recording"))
+            self.assertIn(f"network {second.handle}, mode told", texts)
+            self.assertEqual("at which the long delay begins" in texts[-1], drawn_by_newer)
 
     def test_only_the_network_itself_is_drawn(self):
         first, second = OF_OUTFIT[Outfit.NO_TRANSCEIVER], OF_OUTFIT[Outfit.TRANSCEIVER]

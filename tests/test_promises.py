@@ -7,12 +7,13 @@ the test says which statement is false of it, and finds a history that shows it.
 
 import unittest
 from collections import Counter
+from dataclasses import replace
 from random import Random
 from typing import Dict, List, NamedTuple, Optional, Set, Tuple
 from unittest.mock import patch
 
 import model
-from model import Kind, Limit, Mode, Refusal, Settings, Step
+from model import Kind, Limit, Mode, Refusal, Relation, Settings, Step
 from promises import ANSWER, BUS_OFF, CHECKED, CLEARED, REPORT, REQUEST, STALL, TICK, Call, History, Words, broken, view
 
 HISTORIES = 60
@@ -23,7 +24,7 @@ FULL_ROOM = 144
 
 
 def random_sheet(random: Random) -> List[Settings]:
-    """One or two networks with one or two controllers each, short times, and every outfit."""
+    """One or two networks with one or two controllers each, short times, every outfit, and both rules for the threshold."""
     networks = []
     for number in range(random.choice((1, 1, 2))):
         outfit = random.choice((0, 1, 2))
@@ -37,6 +38,7 @@ def random_sheet(random: Random) -> List[Settings]:
                 ensure_time=random.randint(1, 8),
                 threshold=random.choice((0, 1, 1, 2)),
                 partial_networking=int(outfit == 2),
+                relation=random.choice(tuple(Relation)),
             )
         )
     return networks
@@ -155,9 +157,12 @@ def random_life(random: Random) -> Life:
     return Life(networks, entries, refused_with_room)
 
 
-def prompt_life(after_tick: Dict[int, List[Call]], ticks: int, controllers: int = 1) -> Life:
+# The one network of the lives below: the short delay is 1, the long one 5.
+LONE = Settings(handle=1, controllers=[0], short_delay=1, long_delay=5, ensure_time=9, threshold=1)
+
+
+def prompt_life(after_tick: Dict[int, List[Call]], ticks: int, network: Settings = LONE) -> Life:
     """A life of one network whose neighbours answer every request with ok at once; after the tick of a number come these calls."""
-    network = Settings(handle=1, controllers=list(range(controllers)), short_delay=1, long_delay=5, ensure_time=9, threshold=1)
     manager = started([network])
     entries: List[Tuple[Call, int, List[model.Record]]] = []
     for number in range(ticks + 1):
@@ -208,14 +213,29 @@ def two_chips() -> Life:
     one = {0: wants[Mode.FULL], 7: first + other, 8: other}
     two = {21: first + other, 23: other + first}
     apart = {40: other + first + wants[Mode.NO], 43: wants[Mode.FULL], 47: first, 48: other}
-    return prompt_life({**one, **two, **apart}, 57, controllers=2)
+    return prompt_life({**one, **two, **apart}, 57, replace(LONE, controllers=[0, 1]))
 
 
 def faults_in_silent() -> Life:
     """Up; a fault; full again, then silent, and there a second fault; full is wanted again."""
     wants = {mode: [Call(REQUEST, (1, mode))] for mode in (Mode.SILENT, Mode.FULL)}
     fault = [Call(BUS_OFF, (1,), FULL_ROOM), Call(BUS_OFF, (0,), FULL_ROOM)]
-    return prompt_life({0: wants[Mode.FULL], 7: fault, 10: wants[Mode.SILENT], 12: fault + wants[Mode.FULL]}, 20, controllers=2)
+    calls = {0: wants[Mode.FULL], 7: fault, 10: wants[Mode.SILENT], 12: fault + wants[Mode.FULL]}
+    return prompt_life(calls, 20, replace(LONE, controllers=[0, 1]))
+
+
+def two_faults(relation: Relation) -> Life:
+    """Up; a bus-off; full again, and a second one before passed. With the threshold 2 the second one comes up to it and does not exceed it."""
+    falls = [Call(BUS_OFF, (0,), FULL_ROOM)]
+    return prompt_life({0: [Call(REQUEST, (1, Mode.FULL))], 7: falls, 12: falls}, 22, replace(LONE, threshold=2, relation=relation))
+
+
+def at_the_threshold() -> Life:
+    return two_faults(Relation.AT_OR_ABOVE)
+
+
+def below_and_at_the_threshold() -> Life:
+    return two_faults(Relation.ABOVE)
 
 
 def faults(life: Life) -> Set[str]:
@@ -267,6 +287,7 @@ real_stall = model.stall_network
 real_takes_stall = model.takes_stall
 real_resetting = model.next_step_resetting
 real_manager_stall = model.Manager.stall
+real_read = model.Manager.read
 
 
 def quiet_bus_off(network):
@@ -569,6 +590,35 @@ def unknown_mode_taken_for_silent(self, handle, mode):
     return real_request(self, handle, mode if mode <= Limit.MODE else Mode.SILENT)
 
 
+def newer_rule_for_all(settings, bus_off_count):
+    """The long delay at the threshold, though the field for it is absent."""
+    return bus_off_count >= settings.threshold
+
+
+def older_rule_for_all(settings, bus_off_count):
+    """What a box did before there was field 07: at the threshold still the short delay."""
+    return bus_off_count > settings.threshold
+
+
+def rules_swapped(settings, bus_off_count):
+    rule = older_rule_for_all if settings.relation == Relation.AT_OR_ABOVE else newer_rule_for_all
+    return rule(settings, bus_off_count)
+
+
+def long_one_below_the_threshold(settings, bus_off_count):
+    """By the newer rule one bus-off too few brings the long delay."""
+    newer = settings.relation == Relation.AT_OR_ABOVE
+    return bus_off_count + newer >= settings.threshold if newer else older_rule_for_all(settings, bus_off_count)
+
+
+def rule_of_the_first_for_all(self, data):
+    """Field 07 of the first network holds for every network."""
+    outcome = real_read(self, data)
+    for settings in self.sheet or []:
+        settings.relation = self.sheet[0].relation
+    return outcome
+
+
 WRONG_BOXES: Dict[str, Tuple[Dict[str, object], Dict[str, object], Set[str]]] = {
     # what the box does: functions of the model, methods of its manager, and the statements of which at least one catches it
     "no bus-off is said and no delay kept": (
@@ -636,9 +686,16 @@ WRONG_BOXES: Dict[str, Tuple[Dict[str, object], Dict[str, object], Set[str]]] = 
     ),
     "full is refused at rest": ({}, {"request": full_refused_at_rest}, {"silent-asleep"}),
     "a mode above 2 is taken for silent": ({}, {"request": unknown_mode_taken_for_silent}, {"request-out-of-range"}),
+    "the newer rule without field 07": ({"brings_long_delay": newer_rule_for_all}, {}, {"on-just-that-tick"}),
+    "at the threshold still short, with field 07": ({"brings_long_delay": older_rule_for_all}, {}, {"delayed"}),
+    "the two rules swapped": ({"brings_long_delay": rules_swapped}, {}, {"late-answers"}),
+    "the long delay one below the threshold": ({"brings_long_delay": long_one_below_the_threshold}, {}, {"told-exactly"}),
+    "field 07 of the first network holds for all": ({}, {"read": rule_of_the_first_for_all}, {"told-exactly"}),
 }
 # These are tried first: random lives show some of it late.
-ARRANGED_LIVES = (there_and_back, stalls_and_falls, stalls_and_wishes, short_stall, two_chips, faults_in_silent)
+ARRANGED_LIVES = (
+    there_and_back, stalls_and_falls, stalls_and_wishes, short_stall, two_chips, faults_in_silent, at_the_threshold, below_and_at_the_threshold,
+)
 
 
 def caught(functions: Dict[str, object], methods: Dict[str, object], wanted: Set[str]) -> Optional[Set[str]]:
@@ -651,6 +708,12 @@ def caught(functions: Dict[str, object], methods: Dict[str, object], wanted: Set
                 if found & wanted:
                     return found
     return None
+
+
+def ticks_that_tell_full(life: Life) -> List[int]:
+    """The numbers of the ticks that tell full of network 1."""
+    tells = [(Kind.COMMUNICATION_MANAGER, 1, Mode.FULL) in records for call, _, records in life.entries if call.name == TICK]
+    return [number for number, told in enumerate(tells, 1) if told]
 
 
 class Promises(unittest.TestCase):
@@ -694,15 +757,17 @@ class Promises(unittest.TestCase):
     def test_one_fault_of_two_chips_brings_the_short_delay(self):
         """Full is told on the third tick after the last report of one fault, by the short delay of 1, on the seventh after a second one, by the long
         delay of 5, and on the seventh after the last report where a shutdown came between two."""
-        _, entries, _ = two_chips()
-        tells = [any(record == (Kind.COMMUNICATION_MANAGER, 1, Mode.FULL) for record in records) for call, _, records in entries if call.name == TICK]
-        self.assertEqual([number for number, told in enumerate(tells, 1) if told], [6, 11, 30, 46, 55])
+        self.assertEqual(ticks_that_tell_full(two_chips()), [6, 11, 30, 46, 55])
+
+    def test_the_rules_part_at_the_threshold(self):
+        """The first bus-off is below the threshold of 2, and by both rules full is told on the third tick after it. The second one comes up to it:
+        by the newer rule full is told on the seventh tick, by the older one on the third again."""
+        self.assertEqual(ticks_that_tell_full(two_faults(Relation.AT_OR_ABOVE)), [6, 10, 19])
+        self.assertEqual(ticks_that_tell_full(two_faults(Relation.ABOVE)), [6, 10, 15])
 
     def test_the_third_tick_is_tried(self):
         """Full is told on the third tick after each stall; after the bus-offs the short delay of 1 and two, and the long one of 5 and two."""
-        _, entries, _ = stalls_and_falls()
-        tells = [any(record == (Kind.COMMUNICATION_MANAGER, 1, Mode.FULL) for record in records) for call, _, records in entries if call.name == TICK]
-        self.assertEqual([number for number, told in enumerate(tells, 1) if told], [6, 10, 13, 16, 19, 23, 30])
+        self.assertEqual(ticks_that_tell_full(stalls_and_falls()), [6, 10, 13, 16, 19, 23, 30])
 
 
 if __name__ == "__main__":

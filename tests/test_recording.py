@@ -19,8 +19,8 @@ import examples
 import model
 import random_traces
 import trace_cases
-from model import EventTag, Refusal, Tag
-from traces import LARGEST, SHEET, TICK, WHOLE_CASE, Trace, field, network
+from model import EventTag, Refusal, Relation, Tag
+from traces import LARGEST, LARGEST_BY_THE_NEWER_RULE, SHEET, TICK, WHOLE_CASE, Trace, by_the_newer_rule, field, network
 
 sys.path.append(str(examples.ROOT / "tools"))
 
@@ -33,6 +33,7 @@ CASES = trace_cases.all_cases()
 STORED_OUTPUTS = batches.split_outputs((trace_cases.PRODUCT_FOLDER / "stdout").read_text(encoding="ascii"))
 SEED = 3
 SHEET_LINE = "network 7 controllers 3 delays 2 5 3 threshold 1"
+AT_THE_THRESHOLD = "long-delay at the threshold"
 
 
 def written(script):
@@ -90,6 +91,17 @@ class BothWaysTest(unittest.TestCase):
                 for number in range(256):
                     self.check(field(tag, *(number if index == place else 1 for index in range(length))))
 
+    def test_field_07_at_every_place(self):
+        """Before and after each field of two networks, with every value; twice in a row, cut, and of other lengths."""
+        whole = [SHEET[:4], SHEET[4:8], SHEET[8:17], SHEET[17:21], SHEET[21:]]
+        for place in range(11):
+            before, after = b"".join((whole * 2)[:place]), b"".join((whole * 2)[place:])
+            for number in range(256):
+                self.check(before + field(Tag.RELATION, number) + after)
+            for other in ("07", "0700", "070001", "070000", "0700020101", "07000101 07000101", "07000101 07000100", "07000102 07000101"):
+                self.check(before + bytes.fromhex(other))
+                self.check(before + bytes.fromhex(other) + after)
+
     def test_random_strings(self):
         random = Random(SEED)
         for _ in range(600):
@@ -139,6 +151,8 @@ class FewRawBytesTest(unittest.TestCase):
         lines = script_of(model.write_sheet(LARGEST)).splitlines()
         self.assertEqual(lines[1], "network 254 controllers 4 5 6 7 transceiver 6 delays 2 3 2 threshold 1 partial")
         self.assertEqual(len(lines), 8)
+        newer = script_of(model.write_sheet(LARGEST_BY_THE_NEWER_RULE)).splitlines()
+        self.assertEqual(newer, [f"{line} {AT_THE_THRESHOLD}" for line in lines])
 
 
 # ---------------------------------------------------------------------------
@@ -160,6 +174,22 @@ FORMS = [
     ("network 7 controllers 3 delays 2 5 3 threshold 1 partial 0", "01000107 02000103 040006000200050003 05000101 06000100", SHEET_LINE),
     ("network 7 controllers 3 delays 2 5 3 threshold 1 partial 1", "01000107 02000103 040006000200050003 05000101 06000101",
      SHEET_LINE + " partial"),
+    (f"{SHEET_LINE} {AT_THE_THRESHOLD}", "01000107 02000103 040006000200050003 05000101 06000100 07000101"),
+    (f"network 9 controllers 1 2 transceiver 4 delays 2 5 3 threshold 1 partial {AT_THE_THRESHOLD}",
+     "01000109 02000101 02000102 03000104 040006000200050003 05000101 06000101 07000101"),
+    (f"{SHEET_LINE} partial 0 long-delay 1", "01000107 02000103 040006000200050003 05000101 06000100 07000101", f"{SHEET_LINE} {AT_THE_THRESHOLD}"),
+    (f"{SHEET_LINE} long-delay 0", "01000107 02000103 040006000200050003 05000101 06000100 07000100"),
+    (f"{SHEET_LINE} partial 2 long-delay 255", "01000107 02000103 040006000200050003 05000101 06000102 070001ff"),
+    ("long-delay 0", "07000100"),
+    (AT_THE_THRESHOLD, "07000101"),
+    ("long-delay 1", "07000101", AT_THE_THRESHOLD),
+    ("long-delay 001", "07000101", AT_THE_THRESHOLD),
+    ("long-delay 2", "07000102"),
+    ("long-delay 255", "070001ff"),
+    ("bytes 07 00 01 01", "07000101", AT_THE_THRESHOLD),
+    ("bytes 07 00 00", "070000", "bytes 07 00 00  # wrong length"),
+    ("bytes 07 00 01", "070001", "bytes 07 00 01  # cut field"),
+    ("bytes 08 00 01 01", "08000101", "bytes 08 00 01 01  # unknown tag"),
     ("handle 7", "01000107"),
     ("controller 32", "02000120"),
     ("transceiver 8", "03000108"),
@@ -220,6 +250,8 @@ LAYOUTS = [
     ("\ufefftick\n", "160000"),
     ("tick # \u00e4 \u1234\n", "160000"),
     ("bytes 16\nbytes 00 00\n", "160000"),
+    (f"{SHEET_LINE}\n{AT_THE_THRESHOLD}\n", "01000107 02000103 040006000200050003 05000101 06000100 07000101"),
+    ("long-delay\tat  the \t threshold # and above it\n", "07000101"),
     ("tick\nhandle 7\nnetwork 1 controllers 2 delays 1 1 1 threshold 0\n", "160000 01000107 01000101 02000102 040006000100010001 05000100 06000100"),
 ]
 
@@ -242,6 +274,13 @@ class FormsTest(unittest.TestCase):
         first_bytes = {bytes.fromhex(data)[0] for line, data, *_ in FORMS if not line.startswith(("bytes", "network"))}
         self.assertEqual(first_bytes, {*model.LENGTH_OF_TAG, *model.LENGTH_OF_EVENT})
 
+    def test_field_07_belongs_to_the_network_before_it(self):
+        newer = field(Tag.RELATION, 1)
+        line = f"{SHEET_LINE} {AT_THE_THRESHOLD}"
+        self.assertEqual(script_of(SHEET + newer + SHEET + newer + newer), f"{line}\n{line}\n{AT_THE_THRESHOLD}\n")
+        self.assertEqual(script_of(newer + SHEET + SHEET + newer + TICK), f"{AT_THE_THRESHOLD}\n{SHEET_LINE}\n{line}\n\ntick\n")
+        self.assertEqual(script_of(SHEET[:21] + newer), "handle 7\ncontroller 3\ndelays 2 5 3\nthreshold 1\nlong-delay at the threshold\n")
+
     def test_sheet_and_events_stand_apart(self):
         self.assertEqual(script_of(SHEET + SHEET + TICK + TICK + SHEET), f"{SHEET_LINE}\n{SHEET_LINE}\n\ntick\ntick\n\n{SHEET_LINE}\n")
 
@@ -263,7 +302,9 @@ def random_network(random):
     words = ["network", handle, "controllers", *ids]
     words += [] if transceiver is None else ["transceiver", transceiver]
     words += ["delays", *times, "threshold", threshold] + {0: [], 1: ["partial"], 7: ["partial", 7]}[partial]
-    return " ".join(map(str, words)), model.write_network(model.Settings(handle, ids, transceiver, *times, threshold, partial))
+    relation = random.choice(tuple(Relation))
+    words += {Relation.ABOVE: [], Relation.AT_OR_ABOVE: AT_THE_THRESHOLD.split()}[relation]
+    return " ".join(map(str, words)), model.write_network(model.Settings(handle, ids, transceiver, *times, threshold, partial, relation))
 
 
 TAGS_WITH_ONE_NUMBER = {
@@ -387,9 +428,27 @@ BAD_LINES = [
     ("network 7 controllers 3 delays 2 5 3 threshold 1 transceiver 4", "'transceiver' is too much: the line is complete before it"),
     ("network 7 controllers 3 delays 2 5 3 threshold 1 partial yes", f"'yes' is no partial networking: {A_BYTE}"),
     ("network 7 controllers 3 delays 2 5 3 threshold 1 partial 1 1", "'1' is too much: the line is complete before it"),
+    (f"{SHEET_LINE} long-delay", f"the rule for the long delay is missing: at the threshold or {A_BYTE}"),
+    (f"{SHEET_LINE} long-delay at", "'the' is missing"),
+    (f"{SHEET_LINE} long-delay at the", "'threshold' is missing"),
+    (f"{SHEET_LINE} long-delay at threshold", "'threshold' stands where 'the' is expected"),
+    (f"{SHEET_LINE} long-delay at the limit", "'limit' stands where 'threshold' is expected"),
+    (f"{SHEET_LINE} long-delay above the threshold", f"'above' is no rule for the long delay: at the threshold or {A_BYTE}"),
+    (f"{SHEET_LINE} long-delay 256", f"'256' is no rule for the long delay: {A_BYTE}"),
+    (f"{SHEET_LINE} long-delay 1x", f"'1x' is no rule for the long delay: {A_BYTE}"),
+    (f"{SHEET_LINE} {AT_THE_THRESHOLD} partial", "'partial' is too much: the line is complete before it"),
+    (f"{SHEET_LINE} {AT_THE_THRESHOLD} {AT_THE_THRESHOLD}", "'long-delay' is too much: the line is complete before it"),
+    (f"{SHEET_LINE} at the threshold", "'at' is too much: the line is complete before it"),
+    ("network 7 controllers 3 delays 2 5 3 long-delay at the threshold", "'long-delay' stands where 'threshold' is expected"),
+    ("long-delay", f"the rule for the long delay is missing: at the threshold or {A_BYTE}"),
+    ("long-delay at", "'the' is missing"),
+    ("long-delay at the threshold 1", "'1' is too much: the line is complete before it"),
+    ("long-delays 1", "no line begins with 'long-delays': --help shows the forms"),
+    ("at the threshold", "no line begins with 'at': --help shows the forms"),
     ("controllers 3", "no line begins with 'controllers': --help shows the forms"),
     ("delays 1 2", f"the ensure time is missing: {TWO_BYTES}"),
     ("partial 256", f"'256' is no partial networking: {A_BYTE}"),
+    ("partial tick", "'tick' is too much: the line is complete before it"),
     ("bytes", "the bytes are missing: two hexadecimal digits each"),
     ("bytes 9", "'9' is no byte: two hexadecimal digits"),
     ("bytes 0900", "'0900' is no byte: two hexadecimal digits"),
@@ -500,6 +559,10 @@ SHEET_REFUSALS = [
     (field(1), "config 50 0", "refused: 0x32, the length is not that of the tag", "at byte 0: bytes 01 00 00"),
     (SHEET[4:], "config 51 0", "refused: 0x33, the tag is not allowed here by the order of fields", "at byte 0: controller 3"),
     (SHEET[:20] + b"\xff" + SHEET[21:], "config 52 17", "refused: 0x34, the value is out of its range", "at byte 17: threshold 255"),
+    (SHEET + field(Tag.RELATION, 0), "config 52 25", "refused: 0x34, the value is out of its range", "at byte 25: long-delay 0"),
+    (SHEET + field(Tag.RELATION, 1) * 2, "config 51 29", "refused: 0x33, the tag is not allowed here by the order of fields",
+     "at byte 29: long-delay at the threshold"),
+    (SHEET + field(Tag.RELATION), "config 50 25", "refused: 0x32, the length is not that of the tag", "at byte 25: bytes 07 00 00"),
     (SHEET[:8] + SHEET[4:], "config 53 8", "refused: 0x35, the id is used before", "at byte 8: controller 3"),
     (model.write_sheet(LARGEST) + field(Tag.HANDLE, 1), "config 54 328",
      "refused: 0x36, a ninth network or a fifth controller", "at byte 328: handle 1"),
@@ -536,6 +599,7 @@ STOPS = [
     ("180001", "bytes 18 00 01", "the field is cut"),
     ("160001 00", "bytes 16 00 01 00", "the length is not that of the tag"),
     ("01000107", "handle 7", "the tag is below 10, and the sheet is over"),
+    ("07000101", "long-delay at the threshold", "the tag is below 10, and the sheet is over"),
     ("0f0000", "bytes 0f 00 00", "the tag is below 10, and the sheet is over"),
     ("010000", "bytes 01 00 00", "the tag is below 10, and the sheet is over"),
 ]
@@ -713,6 +777,17 @@ class ExplainTest(unittest.TestCase):
         sheet = model.write_sheet(LARGEST)
         self.assertEqual(explained(sheet, "config 0 8\n"), [["config 0 8", "sheet of 328 bytes", "accepted: 8 networks"]])
 
+    def test_networks_with_the_long_delay_at_the_threshold(self):
+        """They are named below the line of the sheet, with their thresholds; the others are not."""
+        networks = network(7, [3], threshold=2), by_the_newer_rule(network(9, [4], threshold=0)), by_the_newer_rule(network(1, [5], threshold=254))
+        sheet = model.write_sheet(list(networks))
+        self.assertEqual(explained(sheet, "config 0 3\n"), [
+            ["config 0 3", "sheet of 83 bytes", "accepted: 3 networks"],
+            ["", "network 9: the long delay at the threshold of 0 already"],
+            ["", "network 1: the long delay at the threshold of 254 already"],
+        ])
+        self.assertEqual(explained(model.write_sheet([networks[0]]), "config 0 1\n"), [["config 0 1", "sheet of 25 bytes", "accepted: 1 network"]])
+
     def test_columns_are_aligned(self):
         for example in examples.EXAMPLES.glob("*.script"):
             output = example.with_suffix(".txt").read_bytes()
@@ -753,6 +828,8 @@ MISMATCHES = [
     (WHOLE_CASE, WHOLE_OUTPUT.replace("config 0 1", "config 0 2"), "line 1: the number of networks is 2, and in the sheet it is 1"),
     (SHEET[:-4], "config 0 1\n", "line 1: the number of networks is 1, and in the sheet it is 0"),
     (SHEET + SHEET[:4], "config 0 1\n", "line 1: the sheet is accepted, and not all of it is whole networks"),
+    (SHEET + field(Tag.RELATION, 1) * 2, "config 0 1\n", "line 1: the sheet is accepted, and not all of it is whole networks"),
+    (SHEET + field(Tag.RELATION, 1), "config 0 2\n", "line 1: the number of networks is 2, and in the sheet it is 1"),
     (WHOLE_CASE, WHOLE_OUTPUT.replace("1:3:2", "1:4:2"), "line 4: '1:4:2' names an id that the sheet does not have"),
     (WHOLE_CASE, WHOLE_OUTPUT.replace("6:7:0", "6:3:0"), "line 6: '6:3:0' names an id that the sheet does not have"),
     (WHOLE_CASE, WHOLE_OUTPUT.replace("1:3:2", "2:3:0"), "line 4: '2:3:0' names an id that the sheet does not have"),
@@ -893,11 +970,11 @@ class CommandTest(unittest.TestCase):
     def test_help(self):
         text = run("--help").stdout.decode()
         self.assertEqual(run("write", "-h").stdout.decode(), text)
-        self.assertLessEqual(len(text.splitlines()), 60)
+        self.assertLessEqual(len(text.splitlines()), 64)
         self.assertLessEqual(max(map(len, text.splitlines())), 130)
         for name in {line.split()[0] for line, *_ in FORMS}:
             self.assertRegex(text, rf"(?m)(^ +|, ){name}\b")
-        for word in ("no|silent|full", "stopped|started|sleep", "ok|refused", "normal|standby"):
+        for word in ("no|silent|full", "stopped|started|sleep", "ok|refused", "normal|standby", f"[{AT_THE_THRESHOLD}]"):
             self.assertIn(word, text)
 
     def test_example_in_the_help(self):
@@ -952,6 +1029,19 @@ class ExamplesTest(unittest.TestCase):
             32: f"0 {full}",
         }.items():
             self.assertEqual(lines[number], f"{number} {answer}")
+
+    def test_the_threshold(self):
+        """S8, S27 and T13: two recordings that differ in field 07 alone, and the lines that their comments speak of, written by hand."""
+        names = ("at-the-threshold", "above-the-threshold")
+        newer, older = (recording_of((examples.EXAMPLES / f"{name}.script").read_bytes()) for name in names)
+        self.assertEqual(newer, older[:25] + field(Tag.RELATION, 1) + older[25:])
+        at, above = ((examples.EXAMPLES / f"{name}.txt").read_text(encoding="ascii").splitlines() for name in names)
+        full, passed, nothing = "0 3:3:0 6:7:2 7:7:2", "0 8:7:0", "0"
+        self.assertEqual((len(at), len(above)), (36, 36))
+        self.assertEqual((at[18], at[27], at[31], at[35]), (f"18 {full}", "27 0 1", f"31 {full}", f"35 {passed}"))
+        parted = {26: (nothing, full), 27: ("0 1", "0 2"), 30: ("0 1", "0 2"), 31: (full, passed), 35: (passed, nothing)}
+        found = {number: lines for number, lines in enumerate(zip(at, above)) if lines[0] != lines[1]}
+        self.assertEqual(found, {number: tuple(f"{number} {line}" for line in lines) for number, lines in parted.items()})
 
     def test_each_example_can_be_read_back(self):
         scripts = sorted(examples.EXAMPLES.glob("*.script"))

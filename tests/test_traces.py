@@ -21,9 +21,10 @@ import played_cases
 import random_traces
 import run_program
 import trace_cases
-from coverage import CONFIG, Ending, Reached, Situation, Transition, watched_cantrace
-from model import EventTag, Mode, Outfit
-from traces import LARGEST, NOT_OK, OF_OUTFIT, SHEET, TICK, WHOLE_CASE, Case, Trace, answer_to, arrange, field
+from coverage import CONFIG, Delay, Ending, Reached, Situation, Transition, watched_cantrace
+from model import EventTag, Mode, Outfit, Relation, Tag
+from traces import LARGEST, LARGEST_BY_THE_NEWER_RULE, NOT_OK, OF_OUTFIT, SHEET, TICK, WHOLE_CASE, Case, Trace, answer_to, arrange
+from traces import by_the_newer_rule, field, network
 
 TESTS_FOLDER = Path(__file__).resolve().parent
 
@@ -75,6 +76,16 @@ class PossibleTest(unittest.TestCase):
         numbers = {number for name, number in vars(model.Refusal).items() if name.isupper()}
         self.assertEqual(numbers, coverage.possible()["refusals"] | set(coverage.UNREACHABLE_REFUSALS))
         self.assertFalse(coverage.possible()["refusals"] & set(coverage.UNREACHABLE_REFUSALS))
+
+    def test_every_tag_of_a_sheet_has_its_refusals(self):
+        self.assertEqual(set(model.LENGTH_OF_TAG), set(coverage.REFUSALS_OF_TAG))
+        of_field_07 = {answer for tag, answer in coverage.possible()["fields"] if tag == Tag.RELATION}
+        self.assertEqual({0x30, 0x32, 0x33, 0x34}, of_field_07)
+
+    def test_the_two_rules_part_at_the_threshold_alone(self):
+        names = {rule: {delay.count: delay.name for delay in coverage.possible()["delays"] if delay.rule == rule} for rule in ("older", "newer")}
+        self.assertEqual({"below": "short", "at": "short", "above": "long"}, names["older"])
+        self.assertEqual({"below": "short", "at": "long", "above": "long"}, names["newer"])
 
     def test_all_is_missing_where_nothing_is_run(self):
         self.assertEqual(sum(len(things) for things in coverage.possible().values()), len(coverage.missing(Reached())))
@@ -133,6 +144,39 @@ class ReachedTest(unittest.TestCase):
         trace.stall(index=2)
         after = reached_by(trace.recorded())["transitions"] - reached_by(trace.recorded()[:before])["transitions"]
         self.assertEqual({Transition(Outfit.PARTIAL_NETWORKING, EventTag.STALL, 5, 15)}, after)
+
+    def test_delays(self):
+        """One bus-off after the other, with the threshold 2; where both delays are the same nothing is noted."""
+        for rule, settings in (("older", network(7, [3], threshold=2)), ("newer", by_the_newer_rule(network(7, [3], threshold=2)))):
+            trace = Trace(settings)
+            found = []
+            for _ in range(3):
+                trace.go_to(4)
+                trace.bus_off()
+                trace.go_to(4)
+                found.append(reached_by(trace.recorded())["delays"])
+            at = "long" if rule == "newer" else "short"
+            due = [Delay(rule, "below", "short"), Delay(rule, "at", at), Delay(rule, "above", "long")]
+            self.assertEqual([set(due[:1]), set(due[:2]), set(due)], found)
+        trace = Trace(network(7, [3], times=(2, 2, 3)))
+        trace.go_to(7)
+        trace.go_to(4)
+        self.assertEqual(set(), reached_by(trace.recorded())["delays"])
+
+    def test_refused_fields(self):
+        newer = field(Tag.RELATION, 1)
+        for data, expected in (
+            (SHEET + newer, set()),
+            (SHEET + field(Tag.RELATION, 0) + TICK, {(Tag.RELATION, 0x34)}),
+            (newer, {(Tag.RELATION, 0x33)}),
+            (SHEET + newer + newer, {(Tag.RELATION, 0x33)}),
+            (SHEET + field(Tag.RELATION), {(Tag.RELATION, 0x32)}),
+            (SHEET + newer[:3], {(Tag.RELATION, 0x30)}),
+            (SHEET + newer + SHEET, {(Tag.HANDLE, 0x35)}),
+            (SHEET + field(8, 1), set()),
+            (SHEET[:21] + TICK, set()),
+        ):
+            self.assertEqual(expected, reached_by(data)["fields"])
 
     def test_endings(self):
         for data, ending in (
@@ -202,6 +246,10 @@ class TraceTest(unittest.TestCase):
         self.assertEqual((0x13, 5, 1), answer_to((2, 5, 1)))
         self.assertEqual((0x14, 5), answer_to((4, 5, 0)))
         self.assertEqual((0x15, 5), answer_to((5, 5, 0)))
+
+    def test_the_largest_sheets(self):
+        self.assertEqual(328, len(Trace(*LARGEST).recorded()))
+        self.assertEqual(360, len(Trace(*LARGEST_BY_THE_NEWER_RULE).recorded()))
 
     def test_a_bad_sheet_is_no_trace(self):
         with self.assertRaises(ValueError):
@@ -284,7 +332,7 @@ class StoredCasesTest(unittest.TestCase):
     def test_played_cases_run_to_their_end(self):
         groups = (
             played_cases.tick_cases, played_cases.call_cases, played_cases.bus_off_cases, played_cases.network_cases,
-            played_cases.reset_cases, played_cases.stall_cases,
+            played_cases.reset_cases, played_cases.stall_cases, played_cases.threshold_cases,
         )
         for case in (case for group in groups for case in group()):
             lines = model.cantrace(case.data).splitlines()
@@ -299,6 +347,29 @@ class StoredCasesTest(unittest.TestCase):
         faults = trace_cases.coverage_faults(reached)
         self.assertIn("trace_cases: not reached: transitions: partial, tick, 14 to 14", faults)
         self.assertIn("trace_cases: not reached: decisions: partial, step 14, no wanted, not done", faults)
+
+    def test_threshold_cases_that_are_left_out_are_noticed(self):
+        reached = Reached()
+        left_out = {case.name for case in played_cases.threshold_cases()}
+        for case in self.cases:
+            if case.name not in left_out:
+                watched_cantrace(case.data, reached)
+        self.assertEqual([
+            "trace_cases: not reached: delays: newer rule, above the threshold, the long delay",
+            "trace_cases: not reached: delays: newer rule, at the threshold, the long delay",
+            "trace_cases: not reached: delays: newer rule, below the threshold, the short delay",
+        ], trace_cases.coverage_faults(reached))
+
+    def test_two_networks_with_the_same_events_part_at_the_threshold(self):
+        """Polls of both after each of eight ticks, twice. The older rule has full from the fourth tick on, the newer from the seventh; after the
+        second bus-off too, before which only the first network has passed and counts from 0."""
+        older, newer = [Mode.SILENT] * 3 + [Mode.FULL] * 5, [Mode.SILENT] * 6 + [Mode.FULL] * 2
+        for name, expected in (
+            ("both rules in one sheet, the older first", (older, newer)), ("both rules in one sheet, the newer first", (newer, older)),
+        ):
+            [output] = [output for case, output in zip(self.cases, self.outputs) if case.name == name]
+            polled = [int(line.split()[2]) for line in output.splitlines()[1:] if len(line.split()) == 3 and ":" not in line]
+            self.assertEqual((expected[0] * 2, expected[1] * 2), (polled[::2], polled[1::2]))
 
     def test_the_same_input_twice_is_noticed(self):
         twice = [lambda: iter([Case("one", b""), Case("two", b"")])]
@@ -369,7 +440,7 @@ class RandomInputsTest(unittest.TestCase):
 
     def test_stalls_are_taken_and_refused(self):
         reached = Reached()
-        for seed in range(40):
+        for seed in range(60):
             watched_cantrace(random_traces.long_trace(Random(seed)), reached)
         answers = reached.times["answers"]
         self.assertGreater(answers[EventTag.STALL, model.ACCEPTED], 100)
@@ -383,15 +454,23 @@ class RandomInputsTest(unittest.TestCase):
                 self.assertGreater(moves[Transition(outfit, EventTag.TICK, *move)], 0)
 
     def test_sheets_are_good_and_varied(self):
-        numbers, outfits = set(), set()
+        numbers, outfits, rules = set(), set(), set()
         for seed in range(100):
             networks = random_traces.random_networks(Random(seed))
             reading = model.read_sheet(model.write_sheet(networks))
             self.assertEqual(model.ACCEPTED, reading.refusal)
             numbers.add(len(networks))
             outfits |= {model.outfit_of(settings) for settings in networks}
+            rules |= {settings.relation for settings in networks}
         self.assertEqual(set(range(1, 9)), numbers)
         self.assertEqual(set(model.ALL_OUTFITS), outfits)
+        self.assertEqual(set(Relation), rules)
+
+    def test_both_rules_come_to_the_threshold(self):
+        reached = Reached()
+        for seed in range(60):
+            watched_cantrace(random_traces.long_trace(Random(seed)), reached)
+        self.assertEqual(coverage.possible()["delays"], set(reached.times["delays"]))
 
     def test_damage_is_done(self):
         reached = Reached()
@@ -400,6 +479,7 @@ class RandomInputsTest(unittest.TestCase):
             watched_cantrace(random_traces.damaged_events(Random(seed)), reached)
         refusals = {answer for tag, answer in reached.times["answers"] if tag == CONFIG}
         self.assertEqual(set(coverage.POSSIBLE_ANSWERS[CONFIG]), refusals | {0x38})
+        self.assertLessEqual({0x32, 0x33, 0x34}, {answer for tag, answer in reached.times["fields"] if tag == Tag.RELATION})
         self.assertEqual(set(Ending.ALL) - {Ending.TOO_LONG}, set(reached.times["endings"]))
 
     def test_a_seed_gives_the_same_inputs(self):

@@ -37,6 +37,8 @@ GROUPS: List[Callable[[], Iterator[Case]]] = [
     damaged_cases.bad_stall_cases,
     played_cases.silent_cases,
     played_cases.two_chip_cases,
+    damaged_cases.field_07_cases,
+    played_cases.threshold_cases,
 ]
 
 

@@ -4,11 +4,12 @@ A `Trace` lives through its own events in a manager of the model, so the layer a
 closed loop: every request handed out is answered before the next tick, or refused, or left alone, as the maker likes.
 """
 
+from dataclasses import replace
 from typing import List, NamedTuple, Optional, Tuple
 
 import model
 from coverage import Situation, situation_of
-from model import EventTag, Kind, Limit, Mode, Outfit, Step
+from model import EventTag, Kind, Limit, Mode, Outfit, Relation, Step
 
 Event = Tuple[int, ...]
 
@@ -42,9 +43,15 @@ def network(
     times: Tuple[int, int, int] = (2, 5, 3),
     threshold: int = 1,
     partial: int = 0,
+    relation: Relation = Relation.ABOVE,
 ) -> model.Settings:
     """The settings of a network; the times are short delay, long delay and ensure time."""
-    return model.Settings(handle, controllers, transceiver, *times, threshold, partial)
+    return model.Settings(handle, controllers, transceiver, *times, threshold, partial, relation)
+
+
+def by_the_newer_rule(settings: model.Settings) -> model.Settings:
+    """The same network with field 07."""
+    return replace(settings, relation=Relation.AT_OR_ABOVE)
 
 
 # The network of the whole case and of the bench cases, its sheet, and the whole case.
@@ -61,11 +68,13 @@ OF_OUTFIT = {
     Outfit.TRANSCEIVER: network(9, [4, 0], 6),
     Outfit.PARTIAL_NETWORKING: network(20, [30, 1], 5, partial=1),
 }
-# The largest sheet, 328 bytes: eight networks of four controllers and a transceiver, half of them with partial networking.
+# The largest sheet without field 07, 328 bytes: eight networks of four controllers and a transceiver, half of them with partial networking.
 LARGEST = [
     network(255 - n, list(range(4 * n, 4 * n + 4)), 7 - n, times=(1 + n, 2 * n + 1, 2), threshold=n, partial=n % 2)
     for n in range(Limit.NETWORKS)
 ]
+# The largest there is, 360 bytes: field 07 in each of these.
+LARGEST_BY_THE_NEWER_RULE = [by_the_newer_rule(settings) for settings in LARGEST]
 
 
 # ---------------------------------------------------------------------------

@@ -5,8 +5,8 @@ from typing import List, NamedTuple, Set
 from recording_fields import FIRST_EVENT_TAG, LONGEST_RECORDING, Fault, Field, Tag
 from recording_output import ACCEPTED, EVENTS_WITH_RECORDS, TOO_LONG, ConfigLine, EventLine, Output, Recording, ids_in, read_output
 from recording_script import field_line
-from recording_words import ADVICE, CALL_REFUSALS, MODE_WORDS, NO_COMMUNICATION, OF_A_RESET, SAME_FAULT, SHEET_REFUSALS, STALL_OUTLOOK
-from recording_words import TX_OFFLINE, Kind, Record, event_words, record_words
+from recording_words import ADVICE, AT_THE_THRESHOLD, CALL_REFUSALS, MODE_WORDS, NO_COMMUNICATION, OF_A_RESET, SAME_FAULT, SHEET_REFUSALS
+from recording_words import STALL_OUTLOOK, TX_OFFLINE, Kind, Record, event_words, record_words
 
 WIDEST_LINE = 28
 GAP = "  "
@@ -54,11 +54,17 @@ def place_words(recording: Recording, config: ConfigLine) -> str:
     return next(f"at byte {place}: {shown(field)}" for field in recording.sheet if field.place == place)
 
 
+def threshold_meanings(recording: Recording) -> List[str]:
+    """Which networks of an accepted sheet have the long delay at the threshold already; of the others, which have it above, nothing is said."""
+    numbers = [{field.tag: field.value[0] for field in fields} for fields in recording.networks]
+    return [AT_THE_THRESHOLD.format(network[Tag.HANDLE], network[Tag.THRESHOLD]) for network in numbers if Tag.RELATION in network]
+
+
 def config_meanings(recording: Recording, config: ConfigLine) -> List[str]:
     """What the first line says."""
     if config.answer != ACCEPTED:
         return [refusal_words(config.answer, SHEET_REFUSALS[config.answer]), place_words(recording, config)]
-    return [f"accepted: {config.number} network" + ("" if config.number == 1 else "s")]
+    return [f"accepted: {config.number} network" + ("" if config.number == 1 else "s"), *threshold_meanings(recording)]
 
 
 class Troubled:

@@ -19,6 +19,7 @@ class Tag:
     DELAYS = 0x04
     THRESHOLD = 0x05
     PARTIAL = 0x06
+    RELATION = 0x07
     REQUEST = 0x10
     BUS_OFF = 0x11
     ANSWER = 0x12
@@ -37,6 +38,7 @@ VALUE_BYTES = {
     Tag.DELAYS: 6,
     Tag.THRESHOLD: 1,
     Tag.PARTIAL: 1,
+    Tag.RELATION: 1,
     Tag.REQUEST: 2,
     Tag.BUS_OFF: 1,
     Tag.ANSWER: 3,

@@ -32,8 +32,9 @@ class ScriptError(Exception):
 class Part(NamedTuple):
     """One number of a field: what it is called, its size in bytes, and how it is written.
 
-    Without words it is a plain number. With them it is one of the words, or one of `before_number` and then a number. Where
-    the line may end before it, `otherwise` is its value then.
+    Without words it is a plain number. With them it is one of the words, each of which may be several in a row, or one of
+    `before_number` and then a number; where there is none of these, the number alone. Where the line may end before it, or go
+    on with the name of another form, `otherwise` is its value then.
     """
 
     name: str
@@ -54,6 +55,8 @@ MODE = Part("mode", words={"no": Mode.NO, "silent": Mode.SILENT, "full": Mode.FU
 CONTROLLER_MODE = Part("controller mode", words={"stopped": 0, "started": 1, "sleep": 2}, before_number=("mode",))
 TRANSCEIVER_MODE = Part("transceiver mode", words={"normal": 0, "standby": 1}, before_number=("mode",))
 RESULT = Part("result", words={"ok": 1, "refused": 0}, before_number=("value", "ok"))
+# S27: how the bus-offs that count are held against the threshold.
+RELATION = Part("rule for the long delay", words={"at the threshold": 1})
 
 
 class Form(NamedTuple):
@@ -70,6 +73,7 @@ FORMS = {
     "delays": Form(Tag.DELAYS, [Part("short delay", 2), Part("long delay", 2), Part("ensure time", 2)]),
     "threshold": Form(Tag.THRESHOLD, [Part("threshold")]),
     "partial": Form(Tag.PARTIAL, [Part("partial networking", otherwise=1)]),
+    "long-delay": Form(Tag.RELATION, [RELATION]),
     "want": Form(Tag.REQUEST, [HANDLE, MODE]),
     "bus-off": Form(Tag.BUS_OFF, [CONTROLLER]),
     "answer": Form(Tag.ANSWER, [CONTROLLER, CONTROLLER_MODE, RESULT]),
@@ -118,10 +122,9 @@ class Words:
 
 def choices(part: Part) -> str:
     """What a part can be, in words."""
-    if not part.words:
-        return f"a number from 0 to {part.highest()}"
-    *first, last = part.words
-    return f"{', '.join(first)} or {last}"
+    number = f"a number from 0 to {part.highest()}"
+    *first, last = [*part.words, *([] if part.before_number else [number])]
+    return f"{', '.join(first)} or {last}" if first else last
 
 
 def take_number(words: Words, part: Part) -> int:
@@ -135,20 +138,33 @@ def take_number(words: Words, part: Part) -> int:
     raise ScriptError(f"{quoted(word)} is no {part.name}: a number from 0 to {part.highest()}")
 
 
+def take_rest(words: Words, begin: str, part: Part) -> str:
+    """The one of the part's words that begins with this one, which is taken already; the rest of it is taken here. Empty where none does."""
+    for whole in part.words:
+        first, *rest = whole.split()
+        if first == begin:
+            for name in rest:
+                expect(words, name)
+                words.take()
+            return whole
+    return ""
+
+
 def take_part(words: Words, part: Part) -> int:
-    """The next word, or two, as the number that they stand for."""
-    if part.otherwise is not None and not words.left():
+    """The next word, or several, as the number that they stand for."""
+    if part.otherwise is not None and (not words.left() or words.next() in FORMS):
         return part.otherwise
-    if not part.words:
+    if not part.words or (not part.before_number and DIGITS.match(words.next())):
         return take_number(words, part)
     word = words.take()
     if not word:
         raise ScriptError(f"the {part.name} is missing: {choices(part)}")
     if word in part.before_number and (words.left() or word not in part.words):
         return take_number(words, part)
-    if word not in part.words:
+    whole = take_rest(words, word, part)
+    if not whole:
         raise ScriptError(f"{quoted(word)} is no {part.name}: {choices(part)}")
-    return part.words[word]
+    return part.words[whole]
 
 
 def take_field(words: Words) -> bytes:
@@ -177,7 +193,8 @@ def take_controllers(words: Words) -> bytes:
 
 
 def take_network(words: Words) -> bytes:
-    """All fields of a network, in the order of the sheet. Without the word `partial` there is no partial networking."""
+    """All fields of a network, in the order of the sheet. Without the word `partial` there is no partial networking, and field 07 stands only
+    where `long-delay` does."""
     words.take()
     data = field_bytes(Tag.HANDLE, bytes([take_number(words, HANDLE)])) + take_controllers(words)
     if words.next() == "transceiver":
@@ -185,7 +202,8 @@ def take_network(words: Words) -> bytes:
     for name in ("delays", "threshold"):
         expect(words, name)
         data += take_field(words)
-    return data + (take_field(words) if words.next() == "partial" else WITHOUT_PARTIAL)
+    data += take_field(words) if words.next() == "partial" else WITHOUT_PARTIAL
+    return data + (take_field(words) if words.next() == "long-delay" else b"")
 
 
 def take_bytes(words: Words) -> bytes:
@@ -272,7 +290,7 @@ def part_words(part: Part, number: int) -> List[str]:
     for word, meaning in part.words.items():
         if meaning == number:
             return [word]
-    return [part.before_number[0], str(number)]
+    return [*part.before_number[:1], str(number)]
 
 
 def numbers_of(field: Field) -> List[int]:
@@ -327,7 +345,7 @@ def network_end(fields: List[Field], start: int) -> int:
         if good_tag(fields, end) != tag:
             return start
         end += 1
-    return end
+    return end + 1 if good_tag(fields, end) == Tag.RELATION else end
 
 
 def script_lines(fields: List[Field]) -> Iterator[str]:

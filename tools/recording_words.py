@@ -70,6 +70,8 @@ ADVICE = {
         0x22: "it is taken only while full is told: if sending sticks then, make it again",
     },
 }
+# S27: of a network in whose sheet field 07 stands, by its handle and its threshold.
+AT_THE_THRESHOLD = "network {}: the long delay at the threshold of {} already"
 # X3: what a stall brings.
 STALL_OUTLOOK = "the next tick asks all its controllers to stop, a later one to start"
 # B2: what a bus-off says in step 6.

@@ -50,6 +50,7 @@ class Network(NamedTuple):
     long_delay: int
     ensure_time: int
     threshold: int
+    long_at_threshold: bool
 
     @property
     def handle(self) -> int:
@@ -80,7 +81,7 @@ def network_of(fields: List[Field]) -> Network:
     """A network, from its fields in the sheet."""
     ids = {tag: ids_in(fields, tag) for tag in (Tag.HANDLE, Tag.CONTROLLER, Tag.TRANSCEIVER)}
     numbers = {field.tag: numbers_of(field) for field in fields}
-    return Network(ids, *numbers[Tag.DELAYS], *numbers[Tag.THRESHOLD])
+    return Network(ids, *numbers[Tag.DELAYS], *numbers[Tag.THRESHOLD], Tag.RELATION in numbers)
 
 
 def concerns(network: Network, field: Field) -> bool:
@@ -372,10 +373,11 @@ def heads(recovery: Recovery, bottom: int) -> List[str]:
 def caption(recovery: Recovery, source: str, y: int) -> List[str]:
     """What the picture is made from, and what the sheet says of the network."""
     network = recovery.network
+    at_threshold = ", at which the long delay begins" if network.long_at_threshold else ""
     lines = [
         f"Drawn from {source} and the output of cantrace for it. Time goes down. In brackets are the records as the output has them.",
         f"Short delay {network.short_delay}, long delay {network.long_delay}, ensure time {network.ensure_time}, in ticks. "
-        f"Threshold {network.threshold}. A dotted line is a tick.",
+        f"Threshold {network.threshold}{at_threshold}. A dotted line is a tick.",
     ]
     return [text(LEFT, y + LINE * number, words) for number, words in enumerate(lines)]
 

@@ -1,10 +1,10 @@
--- The examples E1 to E12 of docs/RULES.md, by computation on the definitions: one list, one statement. While ticks are counted full is wanted, an ok
--- answers every request before the tick that follows it, and there is no bus-off but those of the example.
+-- The examples E1 to E12, E18 and E19 of docs/RULES.md, by computation on the definitions: one list, one statement. While ticks are counted full is
+-- wanted, an ok answers every request before the tick that follows it, and there is no bus-off but those of the example.
 use Prim.Native.Nat.{ℕ}
 use mathlib.Core.Path.{_≡_, refl}
 use mathlib.Core.List.{List, [], _∷_, _++_, map}
 use lib.ListN.{take, drop, set}
-use Rattle.sheet.specs.Bench.{benchSheet}
+use Rattle.sheet.specs.Bench.{benchSheet, newerSheet}
 use Rattle.records.specs.declared.Record.{Record}
 use Rattle.records.specs.Records.{handed}
 use Rattle.slots.specs.declared.Manager.{Manager}
@@ -44,9 +44,9 @@ case before calls expected = record { before = before; calls = calls; expected =
 abbrev refusedAtPlace : ℕ → ℕ → Seen
 refusedAtPlace number place = record { number = number; count = 0; mode = 0; place = place; records = [] }
 
--- R5: an accepted reading of the sheet, with one network and 25 bytes
-abbrev sheetTaken : Seen
-sheetTaken = record { number = 0; count = 1; mode = 0; place = 25; records = [] }
+-- R5: an accepted reading of a sheet with one network and so many bytes
+abbrev sheetTaken : ℕ → Seen
+sheetTaken bytes = record { number = 0; count = 1; mode = 0; place = bytes; records = [] }
 
 -- a refusal of any other call
 abbrev refusedWith : ℕ → Seen
@@ -99,8 +99,11 @@ abbrev inStep4 : List Call
 inStep4 = atRest ++ up
 
 -- three ticks more, the ensure time, and passed was told: step 5, where E9 and E10 begin
+abbrev ensured : List Call
+ensured = ticks ∷ ticks ∷ ticks ∷ []
+
 abbrev inStep5 : List Call
-inStep5 = inStep4 ++ (ticks ∷ ticks ∷ ticks ∷ [])
+inStep5 = inStep4 ++ ensured
 
 -- a bus-off, and the network is restarted: step 7
 abbrev back : List Call
@@ -110,13 +113,13 @@ back = busOff 3 9 ∷ ticks ∷ answer 3 1 1 ∷ ticks ∷ []
 abbrev backSeen : List Seen
 backSeen = busOffTold ∷ takenWith (handed 1 3 1) ∷ taken ∷ takenWith (handed 3 3 1) ∷ []
 
--- E1 to E12: each with what the definitions give for it, and what is expected
+-- E1 to E12, E18, E19: each with what the definitions give for it, and what is expected
 abbrev pub benchCases : List Case
 benchCases =
     -- E1: no bytes
     case [] (read [] ∷ []) (refusedAtPlace 0x38 0 ∷ [])
     -- E2: the sheet
-    ∷ case [] (read benchSheet ∷ []) (sheetTaken ∷ [])
+    ∷ case [] (read benchSheet ∷ []) (sheetTaken 25 ∷ [])
     -- E3: 24 bytes of it
     ∷ case [] (read (take 24 benchSheet) ∷ []) (refusedAtPlace 0x30 21 ∷ [])
     -- E4: 21 bytes of it
@@ -126,7 +129,7 @@ benchCases =
     -- E6: the field of the controller a second time
     ∷ case [] (read (take 8 benchSheet ++ drop 4 benchSheet) ∷ []) (refusedAtPlace 0x35 8 ∷ [])
     -- E7: the thresholds 254 and 255
-    ∷ case [] (read (set benchSheet 20 254) ∷ read (set benchSheet 20 255) ∷ []) (sheetTaken ∷ refusedAtPlace 0x34 17 ∷ [])
+    ∷ case [] (read (set benchSheet 20 254) ∷ read (set benchSheet 20 255) ∷ []) (sheetTaken 25 ∷ refusedAtPlace 0x34 17 ∷ [])
     -- E8: partial networking without a transceiver
     ∷ case [] (read (set benchSheet 24 1) ∷ []) (refusedAtPlace 0x37 21 ∷ [])
     -- E9: one bus-off, with the short delay
@@ -140,10 +143,19 @@ benchCases =
     -- E12: ticks with 8 and with 9 bytes
     ∷ case (read benchSheet ∷ start ∷ []) (tick 8 ∷ tick 9 ∷ []) (refusedWith 0x20 ∷ takenWith (handed 1 3 0) ∷ [])
     -- E12: the ensure time
-    ∷ case inStep4 (ticks ∷ ticks ∷ ticks ∷ []) (taken ∷ taken ∷ takenWith (handed 8 7 0) ∷ [])
+    ∷ case inStep4 ensured (taken ∷ taken ∷ takenWith (handed 8 7 0) ∷ [])
+    -- E18: field 07 once, a second time, with the value 0, before field 06, and at the front
+    ∷ case [] (read newerSheet ∷ []) (sheetTaken 29 ∷ [])
+    ∷ case [] (read (newerSheet ++ drop 25 newerSheet) ∷ []) (refusedAtPlace 0x33 29 ∷ [])
+    ∷ case [] (read (set newerSheet 28 0) ∷ []) (refusedAtPlace 0x34 25 ∷ [])
+    ∷ case [] (read (take 21 benchSheet ++ drop 25 newerSheet) ∷ []) (refusedAtPlace 0x33 21 ∷ [])
+    ∷ case [] (read (drop 25 newerSheet) ∷ []) (refusedAtPlace 0x33 0 ∷ [])
+    -- E19: one bus-off, which is as many as the threshold, with the long delay
+    ∷ case (read newerSheet ∷ start ∷ (down ++ (up ++ ensured))) (back ++ (ticks ∷ ticks ∷ ticks ∷ ticks ∷ ticks ∷ []))
+    (backSeen ++ (taken ∷ taken ∷ taken ∷ taken ∷ fullTold ∷ []))
     ∷ []
 
--- E1 to E12: the definitions give just what is expected
+-- E1 to E12, E18, E19: the definitions give just what is expected
 pub bench : map (λ (c : Case). seen (run newManager (c .before)) (c .calls)) benchCases ≡ map (λ (c : Case). c .expected) benchCases
 unfolding computedOutcome seen
 bench = refl

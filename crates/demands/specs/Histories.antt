@@ -1,12 +1,13 @@
 -- Histories of the product in which the premises of demand 3 hold, all of them, by computation on the definitions: told full after the start, after a
--- short and after a long delay, with refused ticks in between, with a late answer, with two controllers, with a transceiver and partial networking,
--- of two networks, after a stall, and after faults that two chips report.
+-- short and after a long delay by either relation, with refused ticks in between, with a late answer, with two controllers, with a transceiver and
+-- partial networking, of two networks, after a stall, and after faults that two chips report.
 use Prim.Native.Nat.{ℕ, _+_}
 use mathlib.Core.Path.{_≡_, refl}
 use mathlib.Core.List.{List, [], _∷_, _++_}
 use mathlib.Core.Bool.{Bool, true, false}
+use lib.ListN.{set}
 use Rattle.settings.specs.declared.Network.{Network}
-use Rattle.sheet.specs.Bench.{benchSheet}
+use Rattle.sheet.specs.Bench.{benchSheet, newerSheet}
 use Rattle.lists.specs.Lists.{any}
 use Rattle.handing.specs.Handing.{targetsOf, ownRecord}
 use Rattle.slots.specs.declared.Manager.{Manager}
@@ -139,6 +140,22 @@ pub full-after-the-long-delay :
     ≡ goodSummary 2 7 7
 unfolding computedHistory
 full-after-the-long-delay = refl
+
+-- ---- with field 07 one bus-off is as many as the threshold: told full on the seventh tick, by the long delay, and not on the fourth
+pub full-at-the-threshold :
+    summaryBy newerSheet 0 step5 (busOff 3 9) (restarted ++ (tick 9 ∷ tick 9 ∷ tick 9 ∷ tick 9 ∷ tick 9 ∷ [])) ≡ goodSummary 2 7 7
+unfolding computedHistory
+full-at-the-threshold = refl
+
+pub not-full-at-the-threshold : summaryBy newerSheet 0 step5 (busOff 3 9) (restarted ++ (tick 9 ∷ tick 9 ∷ [])) ≡ goodSummary 1 4 7
+unfolding computedHistory
+not-full-at-the-threshold = refl
+
+-- where the threshold is 2, one is fewer: told full on the fourth, by the short delay
+pub full-below-the-threshold :
+    summaryBy (set newerSheet 20 2) 0 step5 (busOff 3 9) (restarted ++ (tick 9 ∷ tick 9 ∷ [])) ≡ goodSummary 2 4 4
+unfolding computedHistory
+full-below-the-threshold = refl
 
 -- ---- a late answer, after the third tick: all run before the fourth, and full is told on the sixth, not on the fifth
 abbrev late : List Call

@@ -11,6 +11,7 @@ use lib.ListN.{length, getD}
 use Rattle.records.specs.declared.Record.{Record}
 use Rattle.records.specs.Records.{handed as row}
 use Rattle.settings.specs.declared.Transceiver.{Transceiver}
+use Rattle.settings.specs.declared.Relation.{Relation}
 use Rattle.settings.specs.declared.Network.{Network}
 use Rattle.network.specs.declared.Report.{Report}
 use Rattle.network.specs.declared.State.{State}
@@ -88,7 +89,7 @@ falling = aTick ∷ aRequest 0 ∷ full
 
 -- two controllers and a transceiver, with partial networking
 abbrev fitted : Network
-fitted = networkWith 2 (3 ∷ 4 ∷ 0 ∷ 0 ∷ []) (Transceiver.Present 5) true
+fitted = networkWith 2 (3 ∷ 4 ∷ 0 ∷ 0 ∷ []) (Transceiver.Present 5) true 1 Relation.Above
 
 -- both controllers answer ok to the request for a mode
 abbrev both : ℕ → List Sight → List Sight

@@ -8,6 +8,7 @@ use mathlib.Core.Bool.{Bool, false, true≢false, false≢true}
 use Rattle.lists.specs.Lists.{any, every}
 use Rattle.records.specs.declared.Record.{Record}
 use Rattle.records.specs.Records.{handed}
+use Rattle.settings.specs.declared.Relation.{Relation}
 use Rattle.settings.specs.declared.Network.{Network}
 use Rattle.settings.specs.declared.Transceiver.{Transceiver}
 use Rattle.network.specs.Parts.{Sight, aTick, aBusOff, aStall, anAnswer, aRequest}
@@ -20,9 +21,10 @@ use Rattle.network_demands.specs.Words.{OnJustThatTick, SaidFrom, LateAfterStal
 use Rattle.demands.specs.View.{keep, viewsOf}
 use Rattle.demands.specs.Demands.{TickTaken}
 
--- as the bench sheet says it, but for the controllers, the transceiver and partial networking: beside the numbers above, ensure time 3
-abbrev pub networkWith : ℕ → List ℕ → Transceiver → Bool → Network
-networkWith count controllers transceiver partial =
+-- as the bench sheet says it, but for the controllers, the transceiver, partial networking and how bus-offs are held against which threshold: delays
+-- 2 and 5, ensure time 3
+abbrev pub networkWith : ℕ → List ℕ → Transceiver → Bool → ℕ → Relation → Network
+networkWith count controllers transceiver partial threshold relation =
     record {
       handle = 7;
       count = count;
@@ -31,13 +33,18 @@ networkWith count controllers transceiver partial =
       short = 2;
       long = 5;
       ensure = 3;
-      threshold = 1;
+      threshold = threshold;
       partial = partial;
+      relation = relation;
     }
 
 -- with controller 3, without a transceiver
 abbrev pub network : Network
-network = networkWith 1 (3 ∷ 0 ∷ 0 ∷ 0 ∷ []) Transceiver.Absent false
+network = networkWith 1 (3 ∷ 0 ∷ 0 ∷ 0 ∷ []) Transceiver.Absent false 1 Relation.Above
+
+-- the same with field 07 and this threshold: the long delay from as many bus-offs on
+abbrev newer : ℕ → Network
+newer threshold = networkWith 1 (3 ∷ 0 ∷ 0 ∷ 0 ∷ []) Transceiver.Absent false threshold Relation.AtOrAbove
 
 -- ---- entries
 
@@ -164,7 +171,7 @@ module _ where
   refused-bus-off-forgotten = not-running (tellsFull ∷ refusedBusOff ∷ answers ∷ asks ∷ wants 2 ∷ []) refl refl
 
   -- of two controllers, 3 and 4, it asks only the first, and takes its answer for both
-  pub second-not-asked : Answered (networkWith 2 (3 ∷ 4 ∷ 0 ∷ 0 ∷ []) Transceiver.Absent false) (tellsFull ∷ answers ∷ asks ∷ wants 2 ∷ []) → ⊥
+  pub second-not-asked : Answered (networkWith 2 (3 ∷ 4 ∷ 0 ∷ 0 ∷ []) Transceiver.Absent false 1 Relation.Above) (tellsFull ∷ answers ∷ asks ∷ wants 2 ∷ []) → ⊥
   unfolding computedWords
   second-not-asked a = false≢true (a refl 4 refl)
 
@@ -227,6 +234,11 @@ module _ where
   unfolding computedWords
   fault-in-the-wait-not-counted d = let z : 7 ≤ 4 = d refl refl refl refl in omega arith
 
+  -- S27: with field 07 it takes the older relation: one bus-off is as many as the threshold, and full is told on the fourth tick
+  pub short-at-the-threshold : Delayed (newer 1) (tellsFull ∷ ticks [] ∷ waits ∷ answers ∷ asks ∷ []) busOff cameUp → ⊥
+  unfolding computedWords
+  short-at-the-threshold d = let z : 7 ≤ 4 = d refl refl refl refl in omega arith
+
   -- that it was restarting is remembered over a shutdown: a bus-off when it is up again is taken for the same fault
   pub restarting-over-a-shutdown : Delayed network (tellsFull ∷ ticks [] ∷ waits ∷ answers ∷ asks ∷ []) busOff
       (cameUp ++ (ticks (handed 7 7 0 ∷ handed 1 3 0 ∷ []) ∷ wants 0 ∷ busOff ∷ cameUp)) → ⊥
@@ -274,6 +286,18 @@ module _ where
   pub not-told : SaidFrom network (Four (ticks [])) busOff cameUp → ⊥
   unfolding computedWords
   not-told said =
+      let z : _≡_ {A = ℕ} 1 2 = said refl (record { full = refl; prompt = refl; only-ok = refl; calm = refl; unstalled = refl }) in omega arith
+
+  -- S27: with field 07 it is long below the threshold too: one bus-off is fewer than 2, and on the fourth tick full is not told
+  pub long-below-the-threshold : SaidFrom (newer 2) (Four (ticks [])) busOff cameUp → ⊥
+  unfolding computedWords
+  long-below-the-threshold said =
+      let z : _≡_ {A = ℕ} 1 2 = said refl (record { full = refl; prompt = refl; only-ok = refl; calm = refl; unstalled = refl }) in omega arith
+
+  -- S27: with field 07 it idles at the threshold: on the seventh tick full is not told
+  pub idles-at-the-threshold : SaidFrom (newer 1) (ticks [] ∷ ticks [] ∷ ticks [] ∷ Four (ticks [])) busOff cameUp → ⊥
+  unfolding computedWords
+  idles-at-the-threshold said =
       let z : _≡_ {A = ℕ} 1 2 = said refl (record { full = refl; prompt = refl; only-ok = refl; calm = refl; unstalled = refl }) in omega arith
 
   -- it counts every bus-off: a second one in step 6 makes two, and on the fourth tick after it full is not told

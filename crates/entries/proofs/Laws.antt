@@ -31,7 +31,7 @@ times-at s at x y z p q r =
 abbrev pub Says : ℕ → ℕ → Layout → Type 0
 Says tag n Unknown = Unit
 Says tag n Wrong = Unit
-Says tag n Byte = (n ≡ 1) × (1 ≤ tag) × (tag ≤ 6) × (tag ≡ 4 → ⊥)
+Says tag n Byte = (n ≡ 1) × (1 ≤ tag) × (tag ≤ 7) × (tag ≡ 4 → ⊥)
 Says tag n Layout.Times = (n ≡ 6) × (tag ≡ 4)
 
 pub layout-says : (tag n : ℕ) → Says tag n (layoutOf tag n)
@@ -40,8 +40,8 @@ layout-says tag n =
     split (Says tag n) (eqb tag 4)
     (λ a. split (Says tag n) (eqb n 6) (λ e. (eqb-true n 6 e, eqb-true tag 4 a)) (λ e. tt))
     (λ a. split (Says tag n) (ltb tag 1) (λ b. tt)
-    (λ b. split (Says tag n) (ltb 6 tag) (λ d. tt)
-    (λ d. split (Says tag n) (eqb n 1) (λ e. (eqb-true n 1 e, ltb-false tag 1 b, ltb-false 6 tag d, eqb-false tag 4 a)) (λ e. tt))))
+    (λ b. split (Says tag n) (ltb 7 tag) (λ d. tt)
+    (λ d. split (Says tag n) (eqb n 1) (λ e. (eqb-true n 1 e, ltb-false tag 1 b, ltb-false 7 tag d, eqb-false tag 4 a)) (λ e. tt))))
 
 pub layout-byte : (tag n : ℕ) → layoutOf tag n ≡ Byte → n ≡ 1
 layout-byte tag n e = (rw e at (layout-says tag n)) .0

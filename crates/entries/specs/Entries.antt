@@ -1,5 +1,5 @@
 -- The fields of a settings sheet: what a field says, the tests at it that need no settings, and the number of each refusal of a sheet. The rules
--- S4 to S9 and S15 to S18 of docs/RULES.md.
+-- S4 to S9, S15 to S18 and S27 of docs/RULES.md.
 use Prim.Native.Nat.{ℕ, _+_, _*_}
 use mathlib.Core.List.{List}
 use mathlib.Core.Bool.{Bool, cond}
@@ -35,20 +35,21 @@ faultNumber NoTransceiver = 0x37
 -- S25: there is no network
 faultNumber Empty = 0x38
 
--- S4 to S9, S16, S17: the tags are 01 to 06; field 04 has 6 bytes, the others have 1
+-- S4 to S9, S16, S17, S27: the tags are 01 to 07; field 04 has 6 bytes, the others have 1
 unfoldable pub layoutOf : ℕ → ℕ → Layout
 layoutOf tag n =
     cond (eqb tag 0x04) (cond (eqb n 6) Layout.Times Wrong)
-    (cond (ltb tag 0x01) Unknown (cond (ltb 0x06 tag) Unknown (cond (eqb n 1) Byte Wrong)))
+    (cond (ltb tag 0x01) Unknown (cond (ltb 0x07 tag) Unknown (cond (eqb n 1) Byte Wrong)))
 
--- S4 to S6, S8, S9: what a field says whose value is the byte x, by its tag
+-- S4 to S6, S8, S9, S27: what a field says whose value is the byte x, by its tag
 unfoldable pub byteEntry : ℕ → ℕ → Entry
 byteEntry tag x =
     cond (eqb tag 0x01) (Entry.Handle x)
     (cond (eqb tag 0x02) (Entry.Controller x)
     (cond (eqb tag 0x03) (Entry.Transceiver x)
     (cond (eqb tag 0x05) (Entry.Threshold x)
-    (Entry.Partial x))))
+    (cond (eqb tag 0x06) (Entry.Partial x)
+    (Entry.Relation x)))))
 
 -- the number of two bytes, from place i of a value on
 abbrev pub wide : List ℕ → ℕ → ℕ

@@ -1,11 +1,15 @@
 -- What an entry does to the settings: the tests at a field that need the settings so far, and what is stored of it. The rules S19 to S23, with the
--- ranges of S4 to S9, and S26 of docs/RULES.md. Each definition makes its tests in the order of their rules.
+-- ranges of S4 to S9 and S27, and S26 of docs/RULES.md. Each definition makes its tests in the order of their rules.
 use Prim.Native.Nat.{ℕ, _+_}
+use mathlib.Core.List.{List}
 use mathlib.Core.Bool.{Bool, true, false, cond}
 use lib.Dec.{eqb, leb}
 use lib.ListN.{replicate, set}
+use Rattle.lists.specs.Lists.{lastly}
 use Rattle.settings.specs.declared.Transceiver.{Transceiver}
 use Rattle.settings.specs.declared.Transceiver.the-variants.{Absent, Present}
+use Rattle.settings.specs.declared.Relation.{Relation}
+use Rattle.settings.specs.declared.Relation.the-variants.{Above, AtOrAbove}
 use Rattle.settings.specs.declared.Network.{Network}
 use Rattle.settings.specs.declared.Settings.{Settings}
 use Rattle.settings.specs.declared.Id.the-variants.{OfNetwork, OfController, OfTransceiver}
@@ -17,12 +21,12 @@ use Rattle.entries.specs.declared.Entry.the-variants.{End, Bad}
 use Rattle.entries.specs.declared.Progress.{Progress}
 use Rattle.entries.specs.declared.Progress.the-variants.{Named, Listed, Fitted, Timed, Limited}
 use Rattle.entries.specs.declared.Opening.{Opening}
-use Rattle.entries.specs.declared.Opening.the-variants.{Closes, Begins, Refuses}
+use Rattle.entries.specs.declared.Opening.the-variants.{Closes, Begins, Refuses, Amends}
 use Rattle.entries.specs.declared.Filling.{Filling}
 use Rattle.entries.specs.declared.Filling.the-variants.{More, Whole}
 use Rattle.entries.specs.declared.Filled.{Filled}
 
--- ---- where a network may begin: field 01, or the end
+-- ---- where a network may begin: field 01, field 07 of the network before, or the end
 
 -- S4, S21, S22: a handle, which any byte can be, is refused where it was used before, and then where its network is the ninth
 unfoldable pub opensWith : Settings → ℕ → Opening
@@ -31,7 +35,36 @@ opensWith s handle =
     (cond (leb mostNetworks (s .count)) (Refuses TooMany)
     (Begins handle))
 
--- S19: at the start and after field 06 only field 01 or the end may stand
+-- S27: a network that has no field 07 follows the older relation
+abbrev pub isAbove : Relation → Bool
+isAbove Above = true
+isAbove AtOrAbove = false
+
+-- S19: field 07 comes after 06, and once at most: there is a network before, and it has no such field yet
+unfoldable pub takesRelation : List Network → Bool
+takesRelation ns = lastly (λ (n : Network). isAbove (n .relation)) ns
+
+-- S19, S20, S27: field 07 is tested for its place, and for its one value; there is no value that says the older relation
+unfoldable pub onRelation : Settings → ℕ → Opening
+onRelation s x = cond (takesRelation (networksOf s)) (cond (eqb x 1) Amends (Refuses OutOfRange)) (Refuses OutOfOrder)
+
+-- S27: field 07 is stored: from as many bus-offs as the threshold on the delay is the long one
+unfoldable pub addRelation : Network → Network
+addRelation n =
+    record {
+      handle = n .handle;
+      controllers = n .controllers;
+      count = n .count;
+      transceiver = n .transceiver;
+      short = n .short;
+      long = n .long;
+      ensure = n .ensure;
+      threshold = n .threshold;
+      partial = n .partial;
+      relation = AtOrAbove;
+    }
+
+-- S19: at the start only field 01 may stand, or the end; after field 06 field 07 too, and after 07 again field 01 or the end
 unfoldable pub opens : Settings → Entry → Opening
 opens s End = Closes
 opens s (Bad fault) = Refuses fault
@@ -41,6 +74,7 @@ opens s (Entry.Transceiver id) = Refuses OutOfOrder
 opens s (Entry.Times short long ensure) = Refuses OutOfOrder
 opens s (Entry.Threshold x) = Refuses OutOfOrder
 opens s (Entry.Partial x) = Refuses OutOfOrder
+opens s (Entry.Relation x) = onRelation s x
 
 -- a network that has its handle
 unfoldable pub begun : ℕ → Network
@@ -55,6 +89,7 @@ begun handle =
       ensure = 0;
       threshold = 0;
       partial = false;
+      relation = Above;
     }
 
 -- ---- the order of fields: 01, then one to four 02, then 03 or none, then 04, 05 and 06
@@ -91,7 +126,7 @@ takesThreshold Fitted = false
 takesThreshold Timed = true
 takesThreshold Limited = false
 
--- S19: field 06 comes after 05 only, and is the last of its network
+-- S19: field 06 comes after 05 only, and its network is whole; field 07 may follow
 abbrev pub takesPartial : Progress → Bool
 takesPartial Named = false
 takesPartial Listed = false
@@ -109,7 +144,7 @@ refusedFor fault n = record { filling = Filling.Refused fault; network = n }
 abbrev pub more : Progress → Network → Filled
 more progress n = record { filling = More progress; network = n }
 
--- the network has all its fields; next comes a further network or the end
+-- the network has all the fields that it has to have; next comes its field 07, a further network or the end
 abbrev pub whole : Network → Filled
 whole n = record { filling = Whole; network = n }
 
@@ -126,6 +161,7 @@ addController n id =
       ensure = n .ensure;
       threshold = n .threshold;
       partial = n .partial;
+      relation = n .relation;
     }
 
 -- S5, S19 to S22: a controller's id is tested for its place, its range, an earlier use in any network, and being the network's fifth
@@ -152,6 +188,7 @@ addTransceiver n id =
       ensure = n .ensure;
       threshold = n .threshold;
       partial = n .partial;
+      relation = n .relation;
     }
 
 -- S6, S19 to S21: a transceiver's id is tested for its place, its range and an earlier use
@@ -176,6 +213,7 @@ addTimes n short long ensure =
       ensure = ensure;
       threshold = n .threshold;
       partial = n .partial;
+      relation = n .relation;
     }
 
 -- S7, S11, S19, S20: the three times are tested for their place, and each for being 0; the long delay is not held against the short one
@@ -188,7 +226,7 @@ onTimes n progress short long ensure =
     (more Timed (addTimes n short long ensure)))))
     (refusedFor OutOfOrder n)
 
--- S8: field 05 is stored; a count of bus-offs above it brings the long delay
+-- S8: field 05 is stored
 unfoldable pub addThreshold : Network → ℕ → Network
 addThreshold n threshold =
     record {
@@ -201,6 +239,7 @@ addThreshold n threshold =
       ensure = n .ensure;
       threshold = threshold;
       partial = n .partial;
+      relation = n .relation;
     }
 
 -- S8, S19, S20: the threshold is tested for its place and its range
@@ -224,6 +263,7 @@ addPartial n partial =
       ensure = n .ensure;
       threshold = n .threshold;
       partial = partial;
+      relation = n .relation;
     }
 
 -- S23: field 03 has come; without it partial networking is refused
@@ -241,7 +281,7 @@ onPartial n progress x =
     (refusedFor OutOfRange n)))
     (refusedFor OutOfOrder n)
 
--- S19, S26: what an entry does to an unfinished network: neither a further handle nor the end may come in it
+-- S19, S26: what an entry does to an unfinished network: neither a further handle nor field 07 nor the end may come in it
 unfoldable pub fills : Settings → Network → Progress → Entry → Filled
 fills s n progress End = refusedFor Cut n
 fills s n progress (Bad fault) = refusedFor fault n
@@ -251,3 +291,4 @@ fills s n progress (Entry.Transceiver id) = onTransceiver s n progress id
 fills s n progress (Entry.Times short long ensure) = onTimes n progress short long ensure
 fills s n progress (Entry.Threshold threshold) = onThreshold n progress threshold
 fills s n progress (Entry.Partial x) = onPartial n progress x
+fills s n progress (Entry.Relation x) = refusedFor OutOfOrder n

@@ -1,13 +1,9 @@
-// The fields of a settings sheet: what each says, and what it does to the settings.
-mod grammar;
+// The fields of a settings sheet: what each says. What it does to the settings is defined here; the code of that is in `grammar`.
 mod values;
 
 ghost use mathlib.Core.Path.{_≡_};
 ghost use Rattle.entries.specs.Entries.{faultNumber};
 use fields::Field;
-pub use grammar::begin_network;
-pub use grammar::fill_network;
-pub use grammar::open_network;
 use settings::Network;
 pub use values::entry_at;
 pub use values::next_entry;
@@ -56,6 +52,7 @@ pub enum Entry {
     Times { short: u16, long: u16, ensure: u16 },
     Threshold(u8),
     Partial(u8),
+    Relation(u8),
 }
 
 impl Entry {
@@ -70,6 +67,8 @@ impl Entry {
     pub const THRESHOLD_TAG: u8 = 0x05;
 
     pub const PARTIAL_TAG: u8 = 0x06;
+
+    pub const RELATION_TAG: u8 = 0x07;
     // The lengths of the values: three numbers of two bytes, else one byte.
     pub const TIMES_LENGTH: u16 = 6;
 
@@ -84,6 +83,8 @@ impl Entry {
     pub const WITHOUT_PARTIAL: u8 = 0;
 
     pub const WITH_PARTIAL: u8 = 1;
+    // What field 07 says, where it is there.
+    pub const AT_OR_ABOVE: u8 = 1;
 }
 
 // How the head of a field, its tag and its length, lays the field out.
@@ -114,6 +115,8 @@ pub enum Opening {
     Closes,
     Begins(u8),
     Refuses(Fault),
+    // It is field 07 of the network before.
+    Amends,
 }
 
 // What an entry does to an unfinished network.

@@ -24,7 +24,7 @@ pub fn layout_of(tag: u8, length: u16) -> Layout
     if tag < Entry::HANDLE_TAG {
         return Layout::Unknown;
     }
-    if Entry::PARTIAL_TAG < tag {
+    if Entry::RELATION_TAG < tag {
         return Layout::Unknown;
     }
     if length != Entry::BYTE_LENGTH {
@@ -49,7 +49,10 @@ pub fn byte_entry(tag: u8, value: u8) -> Entry
     if tag == Entry::THRESHOLD_TAG {
         return Entry::Threshold(value);
     }
-    Entry::Partial(value)
+    if tag == Entry::PARTIAL_TAG {
+        return Entry::Partial(value);
+    }
+    Entry::Relation(value)
 }
 
 // The number at a place of the bytes.

@@ -2,7 +2,7 @@
 use Rattle.lists.proofs.Basics.{ℕ, zero, suc, _+_, _<_, min, arith, add-one, sym, ap, _∙_, List, _∷_, _++_, map, Bool, true, false, cond, not}
 use Rattle.lists.proofs.Basics.{_||_, _&&_, false≢true, true≢false, length, getD, take, _≡_, refl, []}
 use Rattle.lists.proofs.Parts.{take-min}
-use Rattle.lists.specs.Lists.{any, every, first}
+use Rattle.lists.specs.Lists.{any, every, lastly, first}
 
 or-left : (a b : Bool) → a || b ≡ false → a ≡ false
 or-left true b e = e
@@ -128,6 +128,41 @@ pub every-map : {A B : Type 0} (p : B → Bool) (f : A → B) (l : List A) → e
 unfolding every any
 every-map p f [] = refl
 every-map {A} p f (x ∷ l) = every-cons p (f x) (map f l) ∙ rw (every-map p f l) (sym (every-cons (λ (y : A). p (f y)) x l))
+
+-- ---- lastly
+-- the last element of a list, and those before it
+pub record Ending {A : Type 0} (p : A → Bool) (l : List A) : Type 0 where
+  pub before : List A
+  pub end : A
+  pub parts : l ≡ before ++ (end ∷ [])
+  pub passes : p end ≡ true
+
+module _ {A : Type 0} (p : A → Bool) where
+  -- the last one is the one that was added
+  pub lastly-snoc : (l : List A) (x : A) → lastly p (l ++ (x ∷ [])) ≡ p x
+  unfolding lastly
+  lastly-snoc [] x = refl
+  lastly-snoc (y ∷ []) x = refl
+  lastly-snoc (y ∷ z ∷ l) x = lastly-snoc (z ∷ l) x
+
+  -- where the last one passes, the list ends in one that does
+  pub ending : (l : List A) → lastly p l ≡ true → Ending p l
+  unfolding lastly
+  ending [] e = absurd (false≢true e)
+  ending (x ∷ []) e = record { before = []; end = x; parts = refl; passes = e }
+  ending (x ∷ y ∷ l) e =
+      let rest = ending (y ∷ l) e in
+      record { before = x ∷ rest .before; end = rest .end; parts = ap (λ (k : List A). x ∷ k) (rest .parts); passes = rest .passes }
+
+  -- the last of the first n, by its place
+  pub lastly-take : (l : List A) (n k : ℕ) (d : A) → length (take n l) ≡ suc k → lastly p (take n l) ≡ p (getD l k d)
+  unfolding lastly
+  lastly-take l zero k d e = absurd (omega arith)
+  lastly-take [] (suc n) k d e = absurd (omega arith)
+  lastly-take (x ∷ l) (suc zero) k d e = let z : k ≡ 0 = omega arith in rw z refl
+  lastly-take (x ∷ []) (suc (suc n)) k d e = let z : k ≡ 0 = omega arith in rw z refl
+  lastly-take (x ∷ y ∷ l) (suc (suc n)) zero d e = absurd (omega arith)
+  lastly-take (x ∷ y ∷ l) (suc (suc n)) (suc k) d e = lastly-take (y ∷ l) (suc n) k d (omega arith)
 
 -- where some element passes, the first that does passes
 pub first-passes : {A : Type 0} (p : A → Bool) (l : List A) (d : A) → any p l ≡ true → p (getD l (first p l) d) ≡ true

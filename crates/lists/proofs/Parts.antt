@@ -2,7 +2,7 @@
 use Rattle.lists.proofs.Basics.{ℕ, zero, suc, _+_, _-_, _≤_, _<_, min, arith, add-one, _≡_, refl, sym, ap, _∙_, List, [], _∷_, _++_, map}
 use Rattle.lists.proofs.Basics.{length, getD, take, drop, set, replicate, length-append, length-replicate, length-take, length-map}
 use Rattle.lists.proofs.Basics.{length-set, take-all, length-take-le, append-snoc}
-use lib.Seq.{drop-cons, take-suc, take-suc-set, set-append-seam, set-append-left, take-set-lt}
+use lib.Seq.{drop-cons, take-suc, take-suc-set, getD-append-seam, set-append-seam, set-append-left, take-set-lt}
 use Rattle.lists.specs.Lists.{padded, Bytes}
 
 module _ {A : Type 0} where
@@ -52,6 +52,19 @@ module _ {A : Type 0} where
       ∙ set-append-seam l d (replicate (n - (length l + 1)) d) a
       ∙ sym (append-snoc l a (replicate (n - (length l + 1)) d))
       ∙ ap (λ (k : ℕ). (l ++ (a ∷ [])) ++ replicate (n - k) d) (sym (length-append l (a ∷ [])))
+
+  -- the last element before the filling, and another in its place
+  pub padded-last : (n : ℕ) (d x e : A) (l : List A) → getD (padded n d (l ++ (x ∷ []))) (length l) e ≡ x
+  padded-last n d x e l = rw (append-snoc l x (replicate (n - length (l ++ (x ∷ []))) d)) (getD-append-seam l x _ e)
+
+  pub padded-set-last : (n : ℕ) (d x a : A) (l : List A) → set (padded n d (l ++ (x ∷ []))) (length l) a ≡ padded n d (l ++ (a ∷ []))
+  padded-set-last n d x a l =
+      let same : length (l ++ (x ∷ [])) ≡ length (l ++ (a ∷ [])) = length-append l (x ∷ []) ∙ sym (length-append l (a ∷ [])) in
+      let filling : List A = replicate (n - length (l ++ (x ∷ []))) d in
+      ap (λ (k : List A). set k (length l) a) (append-snoc l x filling)
+      ∙ set-append-seam l x filling a
+      ∙ sym (append-snoc l a filling)
+      ∙ ap (λ (k : ℕ). (l ++ (a ∷ [])) ++ replicate (n - k) d) same
 
   -- where a list is its first k elements, filled up, it has n elements, and there are k of these
   pub padded-length : (n : ℕ) (d : A) (l : List A) (k : ℕ) → k ≤ n → l ≡ padded n d (take k l) → length l ≡ n

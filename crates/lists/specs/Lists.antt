@@ -13,6 +13,12 @@ any p (x ∷ l) = p x || any p l
 unfoldable pub every : {A : Type 0} → (A → Bool) → List A → Bool
 every {A} p l = not (any (λ (x : A). not (p x)) l)
 
+-- the last element passes the test; there is one
+unfoldable pub lastly : {A : Type 0} → (A → Bool) → List A → Bool
+lastly p [] = false
+lastly p (x ∷ []) = p x
+lastly p (x ∷ y ∷ l) = lastly p (y ∷ l)
+
 -- how many elements stand before the first that passes the test
 unfoldable pub first : {A : Type 0} → (A → Bool) → List A → ℕ
 first p [] = 0

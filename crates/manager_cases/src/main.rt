@@ -43,7 +43,7 @@ const WITH_THREE: usize = 4;
 // The lent buffers: room for the records of any call, and for the largest sheet and some bytes that must stay.
 const RECORDS_ROOM: usize = 144;
 
-const SHEET_ROOM: usize = 336;
+const SHEET_ROOM: usize = 368;
 // What a lent buffer holds before.
 const FILL: u8 = 0xee;
 // How many bytes after what was written are shown.

@@ -1,11 +1,12 @@
 -- The conditions of the tick's decision: whether the step is done, whether an answer is a refusal, whether the timer is reached, and the outfit. The
--- rules N13, T1, T10, T13 and T19 of docs/RULES.md.
+-- rules N13, S27, T1, T10, T13 and T19 of docs/RULES.md.
 use Prim.Native.Nat.{ℕ, _+_}
 use mathlib.Core.List.{List}
 use mathlib.Core.Bool.{Bool, true, false, cond}
 use lib.Dec.{leb, ltb}
 use Rattle.lists.specs.Lists.{any, every}
 use Rattle.settings.specs.declared.Transceiver.{Transceiver}
+use Rattle.settings.specs.declared.Relation.{Relation}
 use Rattle.settings.specs.declared.Network.{Network}
 use Rattle.steps.specs.declared.Ask.{Ask}
 use Rattle.steps.specs.declared.Timer.{Timer}
@@ -50,13 +51,14 @@ doneBy Ask.CheckWake hs reported = reported
 unfoldable pub isDone : Network → State → Bool
 isDone n s = cond (s .asked) (doneBy (asksFor (s .step)) (heardOf n s) (s .reported)) false
 
--- T13: the long delay where the count is above the threshold
-abbrev pub isLong : ℕ → ℕ → Bool
-isLong threshold count = ltb threshold count
+-- S27, T13: the long delay where the count is above the threshold, or by the newer relation at it already
+abbrev pub isLong : Relation → ℕ → ℕ → Bool
+isLong Relation.Above threshold count = ltb threshold count
+isLong Relation.AtOrAbove threshold count = leb threshold count
 
--- T13: how long step 7 waits at a bus-off count, in ticks: the long delay or else the short one
+-- T13: how long step 7 waits at a bus-off count, in ticks: the long delay or else the short one, by the network's own relation
 unfoldable pub delayOf : Network → ℕ → ℕ
-delayOf n count = cond (isLong (n .threshold) count) (n .long) (n .short)
+delayOf n count = cond (isLong (n .relation) (n .threshold) count) (n .long) (n .short)
 
 -- T10, T13: with this tick the number of ticks reaches its time, in step 4 the ensure time and in step 7 the delay
 abbrev pub reachedBy : Timer → ℕ → ℕ → Bool

@@ -1,10 +1,12 @@
 -- Which bus-offs count: restarting, as it is read off a history, is step 6 of the network's record, and the record's count is the number of bus-offs
 -- that came while up and not while restarting, since the last all-clear.
-use Rattle.lists.proofs.Basics.{ℕ, suc, _≤_, min, arith, ltb-true, ltb-false, lt-ltb, le-ltb, _≡_, refl, sym, ap, subst, _∙_, [], _∷_, Bool, true}
-use Rattle.lists.proofs.Basics.{false, cond, not, _&&_, _||_, false≢true, ltb}
+use Rattle.lists.proofs.Basics.{ℕ, suc, _≤_, min, arith, ltb-true, ltb-false, leb-true, leb-false, lt-leb, le-leb, _≡_, refl, sym, ap, subst, _∙_, [], _∷_, Bool, true}
+use Rattle.lists.proofs.Basics.{false, cond, not, _&&_, _||_, false≢true, ltb, leb}
 use Rattle.lists.specs.Lists.{any}
 use Rattle.lists.proofs.Tests.{split}
 use Rattle.records.specs.declared.Mode.{Mode}
+use Rattle.settings.specs.declared.Relation.{Relation}
+use Rattle.settings.specs.declared.Relation.the-variants.{Above, AtOrAbove}
 use Rattle.settings.specs.declared.Network.{Network}
 use Rattle.settings.specs.Good.{InRange}
 use Rattle.settings.proofs.Good.{some-controller}
@@ -26,7 +28,10 @@ use Rattle.network.specs.Moving.{countAfter, afterMove}
 use Rattle.network.specs.BusOff.{raised, madeAnew, afterHit}
 use Rattle.network.specs.Parts.{Sight, aTick, aBusOff, aStall}
 use Rattle.network_theorems.specs.Kept.{Kept}
-use Rattle.network_demands.specs.Words.{Seen, OwnHistory, isBusOff, fell, cleared, up, fellUp, restarting, counts, falls, delayAt}
+use Rattle.network_theorems.specs.Delays.{leastLong}
+use Rattle.network_theorems.proofs.Theorems.{long-from}
+use Rattle.network_demands.specs.Words.{Seen, OwnHistory, isBusOff, fell, cleared, up, fellUp, restarting, counts, falls}
+use Rattle.network_demands.specs.Words.{exceeds, delayAt}
 use Rattle.network_demands.specs.Own.{finished, reaches, decides, tickAfter, tickHands, recovered, resetAfter, played, stateOf, Fits, Ran}
 use Rattle.network_demands.proofs.Views.{either-way, seen, by-part}
 use Rattle.network_demands.proofs.Handed.{isPass, isEnterSilent, isWait, isGoDown, move-quiets, move-shuts, move-clears}
@@ -120,13 +125,24 @@ falls-by n e h clear fall p q = rw (p, q) refl
 raised-min : (k f : ℕ) → k ≡ min f 255 → raised k ≡ min (suc f) 255
 raised-min k f e = split (λ (x : ℕ). x ≡ min (suc f) 255) (ltb k 255) (λ l. omega (arith, ltb-true k 255 l)) (λ l. omega (arith, ltb-false k 255 l))
 
--- the record's count stands for the true number: no threshold tells them apart
-pub count-compares : (threshold f : ℕ) → threshold ≤ 254 → isLong threshold (min f 255) ≡ ltb threshold f
-count-compares threshold f h = by-test (ltb threshold f) refl
+-- by either relation a number exceeds the threshold from one number on, which the record's count can reach
+exceeds-from : (r : Relation) (threshold f : ℕ) → exceeds r threshold f ≡ leb (leastLong r threshold) f
+exceeds-from Above threshold f = refl
+exceeds-from AtOrAbove threshold f = refl
+
+least-reached : (r : Relation) (threshold : ℕ) → threshold ≤ 254 → leastLong r threshold ≤ 255
+least-reached Above threshold h = omega arith
+least-reached AtOrAbove threshold h = omega arith
+
+-- the record's count stands for the true number: no threshold tells them apart, by neither relation
+pub count-compares : (r : Relation) (threshold f : ℕ) → threshold ≤ 254 → isLong r threshold (min f 255) ≡ exceeds r threshold f
+count-compares r threshold f h =
+    long-from r threshold (min f 255) ∙ by-test (leb (leastLong r threshold) f) refl ∙ sym (exceeds-from r threshold f)
   where
-    by-test : (t : Bool) → ltb threshold f ≡ t → ltb threshold (min f 255) ≡ ltb threshold f
-    by-test true e = lt-ltb threshold (min f 255) (omega (arith, ltb-true threshold f e)) ∙ sym e
-    by-test false e = le-ltb threshold (min f 255) (omega (arith, ltb-false threshold f e)) ∙ sym e
+    by-test : (t : Bool) → leb (leastLong r threshold) f ≡ t → leb (leastLong r threshold) (min f 255) ≡ leb (leastLong r threshold) f
+    by-test true e =
+        le-leb (leastLong r threshold) (min f 255) (omega (arith, leb-true (leastLong r threshold) f e, least-reached r threshold h)) ∙ sym e
+    by-test false e = lt-leb (leastLong r threshold) (min f 255) (omega (arith, leb-false (leastLong r threshold) f e)) ∙ sym e
 
 -- only passed makes the count 0
 count-by : (m : Move) (count : ℕ) → countAfter m count ≡ cond (isPass m) 0 count
@@ -286,8 +302,8 @@ restarting-uncleared n g e h r = lasts-call n h (stateOf n h) (up-means n h (r .
 pub delay-follows : (n : Network) → InRange n → (h : OwnHistory) (s : State) → Counted n s h → delayOf n (s .count) ≡ delayAt n h
 unfolding delayOf
 delay-follows n g h s k =
-    ap (λ (count : ℕ). cond (isLong (n .threshold) count) (n .long) (n .short)) (k .count)
-    ∙ ap (λ (b : Bool). cond b (n .long) (n .short)) (count-compares (n .threshold) (falls n h) (let few = g .threshold in omega arith))
+    ap (λ (count : ℕ). cond (isLong (n .relation) (n .threshold) count) (n .long) (n .short)) (k .count)
+    ∙ ap (λ (b : Bool). cond b (n .long) (n .short)) (count-compares (n .relation) (n .threshold) (falls n h) (let few = g .threshold in omega arith))
 
 -- silent is not entered while restarting
 pub silence-settled : (n : Network) → InRange n → (h : OwnHistory) → Ran n h → isEnterSilent (decides n (stateOf n h)) ≡ true

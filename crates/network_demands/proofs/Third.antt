@@ -24,7 +24,7 @@ use Rattle.network_theorems.proofs.Moves.{ByMove}
 use Rattle.network_theorems.proofs.Kept.{lowered-not-full}
 use Rattle.network_demands.specs.Words.{hands, Seen, OwnHistory, since, never, tally, isAnswerOn, isAnswer, ticked, fell, stalled, shut, told}
 use Rattle.network_demands.specs.Words.{accepted, wanted}
-use Rattle.network_demands.specs.Words.{setback, up, fellUp, falls, delayAt, owed, askedToStart, runs, firstRunning, fullAtTicks, waiting}
+use Rattle.network_demands.specs.Words.{setback, up, fellUp, falls, exceeds, delayAt, owed, askedToStart, runs, firstRunning, fullAtTicks, waiting}
 use Rattle.network_demands.specs.Words.{promptly, saysNo, wantedAtTick}
 use Rattle.network_demands.specs.Words.{GoodConditions, OnJustThatTick, SaidFrom}
 use Rattle.network_demands.specs.Own.{finished, decides, stateOf, Fits, Ran}
@@ -210,7 +210,7 @@ first-before n e s z = by-number (firstRunning n s) refl
 
 -- no delay is 0
 delay-some : (n : Network) → InRange n → (h : OwnHistory) → 0 < delayAt n h
-delay-some n g h = split (λ (d : ℕ). 0 < d) (ltb (n .threshold) (falls n h)) (λ _. g .long .0) (λ _. g .short .0)
+delay-some n g h = split (λ (d : ℕ). 0 < d) (exceeds (n .relation) (n .threshold) (falls n h)) (λ _. g .long .0) (λ _. g .short .0)
 
 module _ (n : Network) (g : InRange n) (f : Distinct (controllersOf n)) (b : Seen) (h : OwnHistory) (u : fellUp n b h ≡ true) where
   -- the whole history

@@ -60,7 +60,7 @@ risen-one t l = rw (lt-ltb t 65535 l) refl
 
 delay-range : (n : Network) → InRange n → (count : ℕ) → (1 ≤ delayOf n count) × (delayOf n count < 65536)
 unfolding delayOf
-delay-range n g count = split (λ (x : ℕ). (1 ≤ x) × (x < 65536)) (isLong (n .threshold) count) (λ _. g .long) (λ _. g .short)
+delay-range n g count = split (λ (x : ℕ). (1 ≤ x) × (x < 65536)) (isLong (n .relation) (n .threshold) count) (λ _. g .long) (λ _. g .short)
 
 -- q is what followed the last setback before the tick
 module _ (n : Network) (g : InRange n) (told : Mode) (asked : Bool) (answers : List Heard) (count : ℕ) (q : OwnHistory) (d : ℕ) (x : Bool) where

@@ -7,6 +7,7 @@ use mathlib.Core.Bool.{Bool, true, false, not, _&&_, _||_, cond}
 use lib.Dec.{leb, ltb, eqb}
 use Rattle.lists.specs.Lists.{any, every}
 use Rattle.records.specs.declared.Record.{Record}
+use Rattle.settings.specs.declared.Relation.{Relation}
 use Rattle.settings.specs.declared.Network.{Network}
 use Rattle.settings.specs.Settings.{controllersOf, member}
 use Rattle.network.specs.Parts.{Sight, aTick, aBusOff, aStall, anAnswer, aRequest, aReport, nothing}
@@ -208,10 +209,15 @@ unfoldable pub falls : Network → OwnHistory → ℕ
 falls n [] = 0
 falls n (e ∷ h) = cond (cleared n e) 0 (cond (counts n e h) (suc (falls n h)) (falls n h))
 
+-- so many bus-offs exceed the threshold, by a network's own relation: more than it, or at least as many
+abbrev pub exceeds : Relation → ℕ → ℕ → Bool
+exceeds Relation.Above threshold number = ltb threshold number
+exceeds Relation.AtOrAbove threshold number = leb threshold number
+
 -- the delay that a bus-off at the head of the history brings, whether it counts or not: the long one exactly where those that count, up to and with
 -- it, exceed the threshold
 abbrev pub delayAt : Network → OwnHistory → ℕ
-delayAt n h = cond (ltb (n .threshold) (falls n h)) (n .long) (n .short)
+delayAt n h = cond (exceeds (n .relation) (n .threshold) (falls n h)) (n .long) (n .short)
 
 -- one fault is counted once: whatever s reports, which follows the bus-off b while up, no bus-off more counts until TX offline or a shutdown
 abbrev pub CountedOnce : Network → OwnHistory → Seen → OwnHistory → Type 0

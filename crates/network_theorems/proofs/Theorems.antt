@@ -1,7 +1,10 @@
 -- What the layers above rely on of one network, each theorem with its sentence. docs/PROOFS.md lists them.
-use Rattle.lists.proofs.Basics.{ℕ, _+_, _≤_, _<_, arith, lt-ltb, le-ltb, _≡_, refl, sym, ap, _∙_, true, false, length}
+use Rattle.lists.proofs.Basics.{ℕ, _+_, _≤_, _<_, arith, lt-leb, le-leb, eqb-true, eqb-false, ltb-true, ltb-false, _≡_, refl, sym, ap, _∙_, Bool}
+use Rattle.lists.proofs.Basics.{true, false, _||_, eqb, ltb, leb, length}
 use Rattle.lists.specs.Lists.{every}
 use Rattle.records.specs.declared.Mode.{Mode}
+use Rattle.settings.specs.declared.Relation.{Relation}
+use Rattle.settings.specs.declared.Relation.the-variants.{Above, AtOrAbove}
 use Rattle.settings.specs.declared.Network.{Network}
 use Rattle.settings.specs.Good.{InRange}
 use Rattle.settings.proofs.Good.{controllers-counted, some-controller}
@@ -13,10 +16,11 @@ use Rattle.handing.proofs.Laws.{length-move, move-own, recovery-own, reset-own}
 use Rattle.network.specs.declared.Hit.{Hit}
 use Rattle.network.specs.declared.State.{State}
 use Rattle.network.specs.State.{blankAnswers}
-use Rattle.network.specs.Rules.{delayOf, moveOf}
+use Rattle.network.specs.Rules.{isLong, delayOf, moveOf}
 use Rattle.network.specs.Moving.{afterMove, tickRecords}
 use Rattle.network.specs.BusOff.{hitRecords, madeAnew, afterHit}
 use Rattle.network_theorems.specs.Kept.{isFullMode, Kept}
+use Rattle.network_theorems.specs.Delays.{leastLong}
 
 -- ---- records handed out
 -- R16, K11: a tick hands out at most c + 2 records for a network of c controllers
@@ -53,14 +57,31 @@ pub checked-or-full-means-told-full : (n : Network) (s : State) → Kept n s →
 checked-or-full-means-told-full n s k e = full-mode (s .told) (k .told ∙ e)
 
 -- ---- the delay
--- T13: the long delay exactly where the count is above the threshold
-pub delay-long : (n : Network) (count : ℕ) → n .threshold < count → delayOf n count ≡ n .long
-unfolding delayOf
-delay-long n count h = rw (lt-ltb (n .threshold) count h) refl
+-- S27: by either relation the long delay comes from one count on
+pub long-from : (r : Relation) (threshold count : ℕ) → isLong r threshold count ≡ leb (leastLong r threshold) count
+long-from Above threshold count = refl
+long-from AtOrAbove threshold count = refl
 
-pub delay-short : (n : Network) (count : ℕ) → count ≤ n .threshold → delayOf n count ≡ n .short
+-- T13: the delay is the long one from that count on, and the short one below it, whichever the network's relation is
+pub delay-long : (n : Network) (count : ℕ) → leastLong (n .relation) (n .threshold) ≤ count → delayOf n count ≡ n .long
 unfolding delayOf
-delay-short n count h = rw (le-ltb (n .threshold) count h) refl
+delay-long n count h = rw (long-from (n .relation) (n .threshold) count, le-leb (leastLong (n .relation) (n .threshold)) count h) refl
+
+pub delay-short : (n : Network) (count : ℕ) → count < leastLong (n .relation) (n .threshold) → delayOf n count ≡ n .short
+unfolding delayOf
+delay-short n count h = rw (long-from (n .relation) (n .threshold) count, lt-leb (leastLong (n .relation) (n .threshold)) count h) refl
+
+-- S27: the two relations part at the threshold, and nowhere else
+pub relations-part : (threshold count : ℕ) → isLong AtOrAbove threshold count ≡ isLong Above threshold count || eqb threshold count
+relations-part threshold count = by-test (ltb threshold count) refl
+  where
+    at : (b : Bool) → eqb threshold count ≡ b → ltb threshold count ≡ false → leb threshold count ≡ b
+    at true e l = le-leb threshold count (omega (arith, eqb-true threshold count e))
+    at false e l = lt-leb threshold count (omega (arith, eqb-false threshold count e, ltb-false threshold count l))
+
+    by-test : (b : Bool) → ltb threshold count ≡ b → leb threshold count ≡ b || eqb threshold count
+    by-test true l = le-leb threshold count (omega (arith, ltb-true threshold count l))
+    by-test false l = at (eqb threshold count) refl l
 
 -- ---- answers
 -- N11: a step that is entered in order to ask has asked, and all answers are blank

@@ -9,6 +9,7 @@ use Rattle.records.specs.declared.Record.{Record}
 use Rattle.records.specs.declared.Mode.{Mode}
 use Rattle.records.specs.Records.{handed}
 use Rattle.settings.specs.declared.Transceiver.{Transceiver}
+use Rattle.settings.specs.declared.Relation.{Relation}
 use Rattle.settings.specs.declared.Network.{Network}
 use Rattle.steps.specs.declared.Step.{Step}
 use Rattle.steps.specs.declared.Step.the-variants.{NoCommunication, TransceiverNormal, ControllersStopped, ControllersStarted}
@@ -24,9 +25,9 @@ use Rattle.network.specs.State.{heard}
 use Rattle.network.specs.Rules.{isDone, delayOf, moveOf}
 use Rattle.network.specs.Moving.{afterMove, tickState, tickRecords}
 
--- ---- three networks: handle 7, controllers 3 and 4, delays 2 and 5, ensure time 3, threshold 1
-abbrev network : Transceiver → Bool → Network
-network transceiver partial =
+-- ---- four networks: handle 7, controllers 3 and 4, delays 2 and 5, ensure time 3, threshold 1
+abbrev network : Transceiver → Bool → Relation → Network
+network transceiver partial relation =
     record {
       handle = 7;
       controllers = 3 ∷ 4 ∷ 0 ∷ 0 ∷ [];
@@ -37,19 +38,24 @@ network transceiver partial =
       ensure = 3;
       threshold = 1;
       partial = partial;
+      relation = relation;
     }
 
 -- without transceiver: up from step 2, down by 10 and 12
 abbrev bare : Network
-bare = network Transceiver.Absent false
+bare = network Transceiver.Absent false Relation.Above
+
+-- the same with field 07
+abbrev newer : Network
+newer = network Transceiver.Absent false Relation.AtOrAbove
 
 -- with transceiver 6 and without partial networking: up from step 1, down by 10, 12 and 11
 abbrev fitted : Network
-fitted = network (Transceiver.Present 6) false
+fitted = network (Transceiver.Present 6) false Relation.Above
 
 -- with transceiver 6 and partial networking: up from step 1, down by 9, 10, 11, 12 and 13, or 14 and again from 9
 abbrev partial : Network
-partial = network (Transceiver.Present 6) true
+partial = network (Transceiver.Present 6) true Relation.Above
 
 -- a record: step, wanted and told mode, bus-off count, asked, the answers of the two controllers, the report
 abbrev at : Step → Mode → Mode → ℕ → Bool → LastAnswer → LastAnswer → Bool → State
@@ -143,6 +149,9 @@ examples =
     -- T12, T13: the count 2 is above it, so the fifth tick does; and where silent is wanted the network becomes silent
     ∷ case bare (quiet (Waiting 1) Mode.Full Mode.Silent 2) [] (quiet (Waiting 2) Mode.Full Mode.Silent 2)
     ∷ case bare (quiet (Waiting 4) Mode.Full Mode.Silent 2) full (quiet (Checking 0) Mode.Full Mode.Full 2)
+    -- S27, T12, T13: with field 07 the count 1 is as many as the threshold, and it is the fifth tick that ends the wait
+    ∷ case newer (quiet (Waiting 1) Mode.Full Mode.Silent 1) [] (quiet (Waiting 2) Mode.Full Mode.Silent 1)
+    ∷ case newer (quiet (Waiting 4) Mode.Full Mode.Silent 1) full (quiet (Checking 0) Mode.Full Mode.Full 1)
     ∷ case bare (quiet (Waiting 1) Mode.Silent Mode.Silent 1) silent (quiet Silent Mode.Silent Mode.Silent 1)
     -- T14: full is wanted in 8, and where it is not the network stays
     ∷ case bare (quiet Silent Mode.Full Mode.Silent 1) full (quiet (Checking 0) Mode.Full Mode.Full 1)

@@ -1,4 +1,5 @@
 pub mod Kept
 pub mod Requests
 pub mod BusOffs
+pub mod Delays
 pub mod Examples

@@ -6,6 +6,7 @@ use network::State;
 use network::Ticked;
 use records::Mode;
 use settings::Network;
+use settings::Relation;
 use settings::Transceiver;
 use steps::Ask;
 use steps::Move;
@@ -98,17 +99,21 @@ fn is_done(network: Network, state: State) -> bool
     false
 }
 
-// T13: the long delay, where the count is above the threshold.
-fn is_long(threshold: u8, count: u8) -> bool
-    ensures { λ r. ⌜ r ≡ isLong threshold count ⌝ }
+// S27, T13: the long delay, where the count is above the threshold or, by the newer relation, at it already.
+fn is_long(relation: Relation, threshold: u8, count: u8) -> bool
+    ensures { λ r. ⌜ r ≡ isLong relation threshold count ⌝ }
 {
-    threshold < count
+    match relation {
+        Relation::Above => threshold < count,
+        Relation::AtOrAbove => threshold <= count,
+    }
 }
 
 fn delay_of(network: Network, count: u8) -> u16
     ensures { λ r. ⌜ r ≡ delayOf network count ⌝ }
 {
-    if is_long(network.threshold, count) {
+    let relation = network.relation;
+    if is_long(relation, network.threshold, count) {
         return network.long;
     }
     network.short

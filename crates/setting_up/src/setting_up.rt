@@ -71,8 +71,8 @@ pub fn read(manager: Manager, bytes: &[u8]) -> Outcome
 {
     let stage = manager.stage;
     match stage {
-        Stage::Empty => after_reading(manager, sheet::read(bytes)),
-        Stage::Loaded => after_reading(manager, sheet::read(bytes)),
+        Stage::Empty => after_reading(manager, reading::read(bytes)),
+        Stage::Loaded => after_reading(manager, reading::read(bytes)),
         Stage::Started => Outcome::refuse(manager, Answer::Running),
     }
 }
@@ -101,7 +101,7 @@ fn write_sheet(manager: Manager, buffer: &mut [u8]) -> Outcome
         networks,
         count: manager.count,
     };
-    let answer = sheet::write(settings, buffer);
+    let answer = writing::write(settings, buffer);
     after_writing(manager, answer)
 }
 

@@ -85,3 +85,9 @@ pub each-snoc : (ns : List Network) (n : Network) → EachInRange ns → InRange
 unfolding EachInRange
 each-snoc [] n p q = (q, tt)
 each-snoc (m ∷ ns) n p q = (p .0, each-snoc ns n (p .1) q)
+
+-- another in the place of the last
+pub each-last : (ns : List Network) (n m : Network) → (InRange n → InRange m) → EachInRange (ns ++ (n ∷ [])) → EachInRange (ns ++ (m ∷ []))
+unfolding EachInRange
+each-last [] n m f p = (f (p .0), tt)
+each-last (l ∷ ns) n m f p = (p .0, each-last ns n m f (p .1))

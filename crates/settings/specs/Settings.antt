@@ -1,5 +1,5 @@
--- What the settings say: how many and how large ids may be, which ids a network has, and who has an id. The rules S4 to S6, S8, S10, S14, S21 and
--- S22 of docs/RULES.md.
+-- What the settings say: how many and how large ids may be, which ids a network has, and who has an id. The rules S4 to S6, S8, S10, S14, S21, S22
+-- and S27 of docs/RULES.md.
 -- What an array holds past its count is blank and means nothing: all meaning is through `controllersOf` and `networksOf`.
 use Prim.Native.Nat.{ℕ}
 use mathlib.Core.List.{List, [], _∷_}
@@ -9,6 +9,7 @@ use lib.ListN.{take, replicate}
 use Rattle.lists.specs.Lists.{any, first}
 use Rattle.settings.specs.declared.Transceiver.{Transceiver}
 use Rattle.settings.specs.declared.Transceiver.the-variants.{Absent, Present}
+use Rattle.settings.specs.declared.Relation.the-variants.{Above}
 use Rattle.settings.specs.declared.Network.{Network}
 use Rattle.settings.specs.declared.Settings.{Settings}
 use Rattle.settings.specs.declared.Id.{Id}
@@ -36,7 +37,7 @@ transceiverIds = 8
 abbrev pub thresholds : ℕ
 thresholds = 255
 
--- an unused slot: no controller and every time 0, which no sheet can say
+-- an unused slot: no controller and every time 0, which no sheet can say; S27: no field 07, so the older relation
 unfoldable pub blankNetwork : Network
 blankNetwork =
     record {
@@ -49,6 +50,7 @@ blankNetwork =
       ensure = 0;
       threshold = 0;
       partial = false;
+      relation = Above;
     }
 
 -- no network: what reading begins with, and what stands beside a refusal

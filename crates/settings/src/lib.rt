@@ -9,7 +9,13 @@ pub enum Transceiver {
     Present(u8),
 }
 
-// S4 to S9: what the sheet says of one network.
+// S27: how the bus-offs that were counted are held against the threshold: the long delay comes above it, or at it already.
+pub enum Relation {
+    Above,
+    AtOrAbove,
+}
+
+// S4 to S9, S27: what the sheet says of one network.
 pub struct Network {
     pub handle: u8,
     // The ids of its controllers, in the order of the sheet; unused slots are 0.
@@ -24,6 +30,7 @@ pub struct Network {
     pub threshold: u8,
     // With partial networking.
     pub partial: bool,
+    pub relation: Relation,
 }
 
 // The networks of a sheet, in its order; unused slots are blank.
@@ -72,6 +79,7 @@ impl Network {
             ensure: 0,
             threshold: 0,
             partial: false,
+            relation: Relation::Above,
         }
     }
 

@@ -1,4 +1,3 @@
-pub mod Steps
 pub mod Writes
 pub mod WriteThenRead
 pub mod ReadThenWrite

@@ -1,22 +1,25 @@
 -- The settings of an accepted sheet are good, and their sheet is the very bytes that were read. One induction over the row of fields shows
 -- both: `Part` says what holds of an unfinished network after each progress, and `encodePart` which bytes it has been read from.
 use Rattle.lists.proofs.Basics.{ℕ, _+_, _<_, _≤_, arith, eqb-true, eqb-false, leb-false, _≡_, refl, sym, ap, subst, _∙_, List, _∷_, _++_, Bool, true}
-use Rattle.lists.proofs.Basics.{false, cond, eqb, leb, length, getD, set, length-append, length-take-le, []}
+use Rattle.lists.proofs.Basics.{false, false≢true, cond, eqb, leb, length, getD, set, length-append, length-take-le, []}
 use Rattle.lists.specs.Lists.{padded, Bytes}
 use mathlib.Core.Path.{fun-ext}
 use Rattle.lists.proofs.Tests.{split}
-use Rattle.lists.proofs.Any.{any-append-none}
+use Rattle.lists.proofs.Any.{any-append-none, Ending, ending}
 use Rattle.lists.proofs.Parts.{take-set-more, padded-set, padded-length}
 use Rattle.fields.specs.Fields.{Row, stop, stub, overrun, field, rowAt, fieldBytes}
 use Rattle.fields.proofs.Laws.{bytesOf, Ends, ByteRow, bytes-back, bytes-row, two-bytes}
 use Rattle.settings.specs.declared.Transceiver.{Transceiver}
 use Rattle.settings.specs.declared.Transceiver.the-variants.{Absent, Present}
+use Rattle.settings.specs.declared.Relation.{Relation}
+use Rattle.settings.specs.declared.Relation.the-variants.{Above, AtOrAbove}
 use Rattle.settings.specs.declared.Network.{Network}
 use Rattle.settings.specs.declared.Settings.{Settings}
 use Rattle.settings.specs.declared.Id.the-variants.{OfNetwork, OfController, OfTransceiver}
 use Rattle.settings.specs.Settings.{blankNetwork, blankSettings, networksOf, handlesOf, controllersOf, transceiversOf, listed, member, has, used}
 use Rattle.settings.specs.Good.{Below, Fresh, Distinct, all, InRange, EachInRange, Good}
-use Rattle.settings.proofs.Good.{below-append, fresh-append, fresh-more, all-snoc, each-snoc, used-handle, used-controller, used-transceiver}
+use Rattle.settings.proofs.Good.{below-append, fresh-append, fresh-more, all-snoc, each-snoc, each-last, used-handle, used-controller}
+use Rattle.settings.proofs.Good.{used-transceiver}
 use Rattle.entries.specs.declared.Fault.{Fault}
 use Rattle.entries.specs.declared.Fault.the-variants.{Cut, Empty}
 use Rattle.entries.specs.declared.Entry.{Entry}
@@ -26,20 +29,20 @@ use Rattle.entries.specs.declared.Layout.the-variants.{Unknown, Wrong, Byte}
 use Rattle.entries.specs.declared.Progress.{Progress}
 use Rattle.entries.specs.declared.Progress.the-variants.{Named, Listed, Fitted, Timed, Limited}
 use Rattle.entries.specs.declared.Opening.{Opening}
-use Rattle.entries.specs.declared.Opening.the-variants.{Closes, Begins, Refuses}
+use Rattle.entries.specs.declared.Opening.the-variants.{Closes, Begins, Refuses, Amends}
 use Rattle.entries.specs.declared.Filling.{Filling}
 use Rattle.entries.specs.declared.Filling.the-variants.{More, Whole}
 use Rattle.entries.specs.declared.Filled.{Filled}
 use Rattle.sheet.specs.declared.Verdict.the-variants.{Accepted}
 use Rattle.sheet.specs.declared.Reading.{Reading}
 use Rattle.entries.specs.Entries.{layoutOf, overrunFault, byteEntry, timesEntry, wholeEntry, fieldEntry}
-use Rattle.entries.specs.Grammar.{opensWith, opens, begun, present, addController, addTransceiver, addTimes, addThreshold, addPartial, onController}
-use Rattle.entries.specs.Grammar.{onTransceiver, onTimes, onThreshold, onPartial, fills}
-use Rattle.sheet.specs.Reading.{pushed, placeOf, refusedAt, closed, afterOpening, afterFilling, sheet, network, readFrom, decode}
-use Rattle.sheet.specs.Encode.{byteField, timesField, encodeControllers, encodeTransceiver, encodeNetwork, encodeNetworks, encode}
+use Rattle.entries.specs.Grammar.{opensWith, isAbove, takesRelation, onRelation, addRelation, opens, begun, present, addController, addTransceiver}
+use Rattle.entries.specs.Grammar.{addTimes, addThreshold, addPartial, onController, onTransceiver, onTimes, onThreshold, onPartial, fills}
+use Rattle.sheet.specs.Reading.{pushed, amended, placeOf, refusedAt, closed, afterOpening, afterFilling, sheet, network, readFrom, decode}
+use Rattle.sheet.specs.Encode.{byteField, timesField, encodeControllers, encodeTransceiver, encodeRelation, encodeNetwork, encodeNetworks, encode}
 use Rattle.entries.proofs.Laws.{Says, layout-says}
 use Rattle.sheet.proofs.Writes.{controllers-onto, networks-onto}
-use Rattle.sheet.proofs.WriteThenRead.{settingsOf, networks-of, push}
+use Rattle.sheet.proofs.WriteThenRead.{settingsOf, networks-of, push, amend}
 
 -- ---- what an entry says of the field that it was read from
 abbrev Means : ℕ → List ℕ → Entry → Type 0
@@ -51,19 +54,29 @@ Means tag v (Entry.Transceiver x) = byteField 3 x ≡ fieldBytes tag v
 Means tag v (Entry.Times x y z) = (x < 65536) × (y < 65536) × (z < 65536) × (timesField x y z ≡ fieldBytes tag v)
 Means tag v (Entry.Threshold x) = byteField 5 x ≡ fieldBytes tag v
 Means tag v (Entry.Partial x) = byteField 6 x ≡ fieldBytes tag v
+Means tag v (Entry.Relation x) = byteField 7 x ≡ fieldBytes tag v
 
 -- a field of one byte, by its tag
 tagged : (tag k x : ℕ) → tag ≡ k → byteField k x ≡ fieldBytes tag (x ∷ [])
 tagged tag k x e = ap (λ (t : ℕ). byteField t x) (sym e)
 
-byte-means : (tag x : ℕ) → x < 256 → 1 ≤ tag → tag ≤ 6 → (tag ≡ 4 → ⊥) → Means tag (x ∷ []) (byteEntry tag x)
+-- a tag that is none of the lower ones
+past : (tag k : ℕ) → k ≤ tag → (tag ≡ k → ⊥) → k + 1 ≤ tag
+past tag k h n = omega (arith, n)
+
+byte-means : (tag x : ℕ) → x < 256 → 1 ≤ tag → tag ≤ 7 → (tag ≡ 4 → ⊥) → Means tag (x ∷ []) (byteEntry tag x)
 unfolding byteEntry
 byte-means tag x h low high four =
     split (Means tag (x ∷ [])) (eqb tag 1) (λ a. (h, tagged tag 1 x (eqb-true tag 1 a)))
     (λ a. split (Means tag (x ∷ [])) (eqb tag 2) (λ b. tagged tag 2 x (eqb-true tag 2 b))
     (λ b. split (Means tag (x ∷ [])) (eqb tag 3) (λ c. tagged tag 3 x (eqb-true tag 3 c))
     (λ c. split (Means tag (x ∷ [])) (eqb tag 5) (λ d. tagged tag 5 x (eqb-true tag 5 d))
-    (λ d. tagged tag 6 x (omega (arith, eqb-false tag 1 a, eqb-false tag 2 b, eqb-false tag 3 c, eqb-false tag 5 d, four))))))
+    (λ d. split (Means tag (x ∷ [])) (eqb tag 6) (λ e. tagged tag 6 x (eqb-true tag 6 e))
+    (λ e.
+    let third = past tag 2 (past tag 1 low (eqb-false tag 1 a)) (eqb-false tag 2 b) in
+    let fifth = past tag 4 (past tag 3 third (eqb-false tag 3 c)) four in
+    let seventh = past tag 6 (past tag 5 fifth (eqb-false tag 5 d)) (eqb-false tag 6 e) in
+    tagged tag 7 x (omega (arith, seventh, high)))))))
 
 times-means : (tag : ℕ) (v : List ℕ) → Bytes v → length v ≡ 6 → tag ≡ 4 → Means tag v (timesEntry v)
 unfolding timesEntry Bytes
@@ -84,7 +97,7 @@ times-means tag (a ∷ b ∷ c ∷ d ∷ []) w n t = absurd (omega arith)
 times-means tag (a ∷ b ∷ c ∷ d ∷ e ∷ []) w n t = absurd (omega arith)
 times-means tag (a ∷ b ∷ c ∷ d ∷ e ∷ f ∷ g ∷ v) w n t = absurd (omega arith)
 
-one-means : (tag : ℕ) (v : List ℕ) → Bytes v → length v ≡ 1 → 1 ≤ tag → tag ≤ 6 → (tag ≡ 4 → ⊥) → Means tag v (byteEntry tag (getD v 0 0))
+one-means : (tag : ℕ) (v : List ℕ) → Bytes v → length v ≡ 1 → 1 ≤ tag → tag ≤ 7 → (tag ≡ 4 → ⊥) → Means tag v (byteEntry tag (getD v 0 0))
 unfolding Bytes
 one-means tag [] w n low high four = absurd (omega arith)
 one-means tag (x ∷ []) w n low high four = byte-means tag x (w .0) low high four
@@ -110,6 +123,7 @@ record Base (ns : List Network) (n : Network) : Type 0 where
   slots : n .controllers ≡ padded 4 0 (controllersOf n)
   below : Below 32 (controllersOf n)
   fresh : Fresh (all controllersOf ns) (controllersOf n)
+  older : n .relation ≡ Above
 
 abbrev Link : List Network → Transceiver → Type 0
 Link ns t = Below 8 (listed t) × Fresh (all transceiversOf ns) (listed t)
@@ -182,6 +196,7 @@ module _ (ns : List Network) (n : Network) (x : ℕ) (b : Base ns n) (h : n .cou
             ∙ ap (padded 4 0) (sym t);
         below = subst (Below 32) (sym t) (below-append 32 (controllersOf n) (x ∷ []) (b .below) (k, tt));
         fresh = subst (Fresh (all controllersOf ns)) (sym t) (fresh-more (all controllersOf ns) (controllersOf n) x (b .fresh) e);
+        older = b .older;
       }
 
 -- the tests of field 02 that follow that of the order
@@ -212,7 +227,8 @@ controller-leads ns n Limited x p = tt
 
 -- ---- field 03
 -- a change of what stands beside the handle and the controllers keeps `Base`
-module _ (ns : List Network) (n m : Network) (h : m .handle ≡ n .handle) (c : m .controllers ≡ n .controllers) (k : m .count ≡ n .count) where
+module _ (ns : List Network) (n m : Network) (h : m .handle ≡ n .handle) (c : m .controllers ≡ n .controllers) (k : m .count ≡ n .count)
+    (r : m .relation ≡ n .relation) where
   base-kept : Base ns n → Base ns m
   base-kept b =
       let t : controllersOf m ≡ controllersOf n = rw (c, k) refl in
@@ -223,6 +239,7 @@ module _ (ns : List Network) (n m : Network) (h : m .handle ≡ n .handle) (c : 
         slots = c ∙ b .slots ∙ ap (padded 4 0) (sym t);
         below = rw t (b .below);
         fresh = rw t (b .fresh);
+        older = r ∙ b .older;
       }
 
 transceiver-leads : (ns : List Network) (n : Network) (progress : Progress) (x : ℕ) →
@@ -234,7 +251,7 @@ transceiver-leads ns n Listed x p =
     (λ a. split (Led ns _) (used (OfTransceiver x) (networksOf (settingsOf ns))) (λ u. tt)
     (λ u.
     let v : member x (all transceiversOf ns) ≡ false = sym (used-transceiver x ns) ∙ ap (used (OfTransceiver x)) (sym (networks-of ns)) ∙ u in
-    ((base-kept ns n (addTransceiver n x) refl refl refl (p .0), ((leb-false 8 x a, tt), (v, tt)), p .2), λ l. refl)))
+    ((base-kept ns n (addTransceiver n x) refl refl refl refl (p .0), ((leb-false 8 x a, tt), (v, tt)), p .2), λ l. refl)))
 transceiver-leads ns n Fitted x p = tt
 transceiver-leads ns n Timed x p = tt
 transceiver-leads ns n Limited x p = tt
@@ -260,7 +277,7 @@ module _ (ns : List Network) (n : Network) (x y z : ℕ) (hx : x < 65536) (hy : 
       split (Led ns bytes) (eqb x 0) (λ p. tt)
       (λ p. split (Led ns bytes) (eqb y 0) (λ q. tt)
       (λ q. split (Led ns bytes) (eqb z 0) (λ r. tt)
-      (λ r. ((base-kept ns n (addTimes n x y z) refl refl refl b, k, c, ((above-zero x p, hx), (above-zero y q, hy), (above-zero z r, hz))), e))))
+      (λ r. ((base-kept ns n (addTimes n x y z) refl refl refl refl b, k, c, ((above-zero x p, hx), (above-zero y q, hy), (above-zero z r, hz))), e))))
 
   times-leads : (progress : Progress) → Part ns progress n → Led ns (λ l. encodePart progress n (timesField x y z l)) (onTimes n progress x y z)
   unfolding onTimes encodePart
@@ -281,7 +298,7 @@ threshold-leads ns n Listed x p = tt
 threshold-leads ns n Fitted x p = tt
 threshold-leads ns n Timed x p =
     split (Led ns _) (leb 255 x) (λ a. tt)
-    (λ a. ((base-kept ns n (addThreshold n x) refl refl refl (p .0), p .1, p .2, p .3, leb-false 255 x a), λ l. refl))
+    (λ a. ((base-kept ns n (addThreshold n x) refl refl refl refl (p .0), p .1, p .2, p .3, leb-false 255 x a), λ l. refl))
 threshold-leads ns n Limited x p = tt
 
 -- ---- field 06
@@ -313,17 +330,18 @@ finished ns n partial p h = record {
 
 partial-leads : (ns : List Network) (n : Network) (progress : Progress) (x : ℕ) →
     Part ns progress n → Led ns (λ l. encodePart progress n (byteField 6 x l)) (onPartial n progress x)
-unfolding onPartial encodePart addPartial encodeNetwork
+unfolding onPartial encodePart addPartial encodeNetwork encodeRelation
 partial-leads ns n Named x p = tt
 partial-leads ns n Listed x p = tt
 partial-leads ns n Fitted x p = tt
 partial-leads ns n Timed x p = tt
 partial-leads ns n Limited x p =
     split (Led ns _) (eqb x 0)
-    (λ a. let e : x ≡ 0 = eqb-true x 0 a in (finished ns n false p (λ f. let z : _≡_ {A = ℕ} 0 1 = cc in omega arith), λ l. rw e refl))
+    (λ a. let e : x ≡ 0 = eqb-true x 0 a in (finished ns n false p (λ f. let z : _≡_ {A = ℕ} 0 1 = cc in omega arith), λ l. rw (e, p .0 .older) refl))
     (λ a. split (Led ns _) (eqb x 1)
     (λ b. let e : x ≡ 1 = eqb-true x 1 b in
-    split (Led ns _) (present (n .transceiver)) (λ t. (finished ns n true p (λ f. is-present (n .transceiver) t), λ l. rw e refl)) (λ t. tt))
+    split (Led ns _) (present (n .transceiver)) (λ t. (finished ns n true p (λ f. is-present (n .transceiver) t), λ l. rw (e, p .0 .older) refl))
+    (λ t. tt))
     (λ b. tt))
 
 -- ---- any entry in a network
@@ -343,16 +361,18 @@ by-entry ns n progress tag v (Entry.Threshold x) m p =
     led-same ns (encodePart progress n) (onThreshold n progress x) m (threshold-leads ns n progress x p)
 by-entry ns n progress tag v (Entry.Partial x) m p =
     led-same ns (encodePart progress n) (onPartial n progress x) m (partial-leads ns n progress x p)
+by-entry ns n progress tag v (Entry.Relation x) m p = tt
 
 -- ---- where a network may begin
 abbrev Starts : List Network → (List ℕ → List ℕ) → Opening → Type 0
 Starts ns bytes Closes = ⊥
 Starts ns bytes (Begins handle) = Part ns Named (begun handle) × ((l : List ℕ) → encodePart Named (begun handle) l ≡ bytes l) × (length ns < 8)
 Starts ns bytes (Refuses fault) = Unit
+Starts ns bytes Amends = (takesRelation ns ≡ true) × ((l : List ℕ) → byteField 7 1 l ≡ bytes l)
 
 begun-part : (ns : List Network) (handle : ℕ) → handle < 256 → member handle (all handlesOf ns) ≡ false → Part ns Named (begun handle)
 unfolding begun Below Fresh
-begun-part ns handle h e = (record { handle = h; fresh-handle = (e, tt); few = omega arith; slots = refl; below = tt; fresh = tt }, refl)
+begun-part ns handle h e = (record { handle = h; fresh-handle = (e, tt); few = omega arith; slots = refl; below = tt; fresh = tt; older = refl }, refl)
 
 handle-starts : (ns : List Network) (x : ℕ) → x < 256 → Starts ns (λ l. byteField 1 x l) (opensWith (settingsOf ns) x)
 unfolding opensWith begun encodePart encodeControllers
@@ -360,6 +380,13 @@ handle-starts ns x h =
     split (Starts ns _) (used (OfNetwork x) (networksOf (settingsOf ns))) (λ u. tt)
     (λ u. split (Starts ns _) (leb 8 (length ns)) (λ k. tt)
     (λ k. (begun-part ns x h (sym (used-handle x ns) ∙ ap (used (OfNetwork x)) (sym (networks-of ns)) ∙ u), (λ l. refl), leb-false 8 (length ns) k)))
+
+relation-starts : (ns : List Network) (x : ℕ) → Starts ns (λ l. byteField 7 x l) (onRelation (settingsOf ns) x)
+unfolding onRelation
+relation-starts ns x =
+    split (Starts ns _) (takesRelation (networksOf (settingsOf ns)))
+    (λ t. split (Starts ns _) (eqb x 1)
+    (λ a. let e : x ≡ 1 = eqb-true x 1 a in (ap takesRelation (sym (networks-of ns)) ∙ t, λ l. rw e refl)) (λ a. tt)) (λ t. tt)
 
 entry-starts : (ns : List Network) (tag : ℕ) (v : List ℕ) (entry : Entry) →
     Means tag v entry → Starts ns (fieldBytes tag v) (opens (settingsOf ns) entry)
@@ -373,6 +400,7 @@ entry-starts ns tag v (Entry.Transceiver x) m = tt
 entry-starts ns tag v (Entry.Times x y z) m = tt
 entry-starts ns tag v (Entry.Threshold x) m = tt
 entry-starts ns tag v (Entry.Partial x) m = tt
+entry-starts ns tag v (Entry.Relation x) m = subst (λ (f : List ℕ → List ℕ). Starts ns f (onRelation (settingsOf ns) x)) m (relation-starts ns x)
 
 -- ---- the networks so far
 record SoFar (ns : List Network) : Type 0 where
@@ -392,6 +420,35 @@ so-far-more ns n s f = record {
   controllers = distinct-more controllersOf ns n (s .controllers) (f .controllers);
   transceivers = distinct-more transceiversOf ns n (s .transceivers) (f .transceivers);
 }
+
+-- field 07 of the last network: it is in its range as it was before, and its ids are the same
+related-in-range : (n : Network) → InRange n → InRange (addRelation n)
+unfolding addRelation
+related-in-range n g = record {
+  handle = g .handle;
+  some-controller = g .some-controller;
+  few-controllers = g .few-controllers;
+  blank-slots = g .blank-slots;
+  controllers = g .controllers;
+  transceiver = g .transceiver;
+  short = g .short;
+  long = g .long;
+  ensure = g .ensure;
+  threshold = g .threshold;
+  partial = g .partial;
+}
+
+so-far-related : (ns : List Network) (n : Network) → SoFar (ns ++ (n ∷ [])) → SoFar (ns ++ (addRelation n ∷ []))
+unfolding addRelation
+so-far-related ns n s =
+    let same : (ids : Network → List ℕ) → ids n ≡ ids (addRelation n) → all ids (ns ++ (n ∷ [])) ≡ all ids (ns ++ (addRelation n ∷ [])) =
+    λ ids e. all-snoc ids ns n ∙ ap (λ (l : List ℕ). all ids ns ++ l) e ∙ sym (all-snoc ids ns (addRelation n)) in
+    record {
+      in-range = each-last ns n (addRelation n) (related-in-range n) (s .in-range);
+      handles = subst Distinct (same handlesOf refl) (s .handles);
+      controllers = subst Distinct (same controllersOf refl) (s .controllers);
+      transceivers = subst Distinct (same transceiversOf refl) (s .transceivers);
+    }
 
 so-far-good : (ns : List Network) → SoFar ns → length ns ≤ 8 → (length ns ≡ 0 → ⊥) → Good (settingsOf ns)
 so-far-good ns s h k =
@@ -447,14 +504,52 @@ move-told Whole m entry at tag v row ns bytes s h p net sh = λ e.
 move-told (Filling.Refused fault) m entry at tag v row ns bytes s h p net sh =
     refused-told ns bytes (field at tag v row) fault (placeOf fault entry at)
 
+-- the bytes of a network with field 07 are its bytes without it, and then that field
+related-bytes : (n : Network) (l : List ℕ) → n .relation ≡ Above → encodeNetwork (addRelation n) l ≡ encodeNetwork n (byteField 7 1 l)
+unfolding encodeNetwork addRelation encodeRelation
+related-bytes n l e = rw e refl
+
+still-above : (r : Relation) → isAbove r ≡ true → r ≡ Above
+still-above Above e = refl
+still-above AtOrAbove e = absurd (false≢true e)
+
+-- what follows field 07
+related-told : (row : Row) (ns : List Network) → SheetTold row → SoFar ns → length ns ≤ 8 → takesRelation ns ≡ true
+    → Told ns (byteField 7 1) row (sheet row (amended (settingsOf ns)))
+unfolding takesRelation encodeNetworks
+related-told row ns sh s h t =
+    let k = ending (λ (n : Network). isAbove (n .relation)) ns t in
+    subst (λ (l : List Network). Told l (byteField 7 1) row (sheet row (amended (settingsOf l)))) (sym (k .parts))
+    (λ e.
+    let more : List Network = k .before ++ (addRelation (k .end) ∷ []) in
+    let few : length more ≤ 8 = omega (
+      arith,
+      h,
+      ap length (k .parts),
+      length-append (k .before) (k .end ∷ []),
+      length-append (k .before) (addRelation (k .end) ∷ []),
+    ) in
+    let x = sh more (so-far-related (k .before) (k .end) (subst SoFar (k .parts) s)) few (rw (amend (k .before) (k .end)) at e) in
+    rw (amend (k .before) (k .end)) (
+      x .0,
+      x .1,
+      x .2
+          ∙ networks-onto (k .before) (addRelation (k .end) ∷ []) (bytesOf row)
+          ∙ ap (encodeNetworks (k .before)) (related-bytes (k .end) (bytesOf row) (still-above (k .end .relation) (k .passes)))
+          ∙ sym (networks-onto (k .before) (k .end ∷ []) (byteField 7 1 (bytesOf row))),
+    ))
+
 opening-told : (o : Opening) (entry : Entry) (at tag : ℕ) (v : List ℕ) (row : Row) (ns : List Network) →
-    Starts ns (fieldBytes tag v) o → (length ns < 8 → NetworkTold row ns) →
-    Told ns Same (field at tag v row) (afterOpening o (settingsOf ns) entry at (λ handle. network row (settingsOf ns) (begun handle) Named))
+    Starts ns (fieldBytes tag v) o → SoFar ns → length ns ≤ 8 → (length ns < 8 → NetworkTold row ns) → SheetTold row →
+    Told ns Same (field at tag v row)
+    (afterOpening o (settingsOf ns) entry at (λ handle. network row (settingsOf ns) (begun handle) Named) (λ more. sheet row more))
 unfolding afterOpening bytesOf
-opening-told Closes entry at tag v row ns p net = absurd p
-opening-told (Begins handle) entry at tag v row ns p net =
+opening-told Closes entry at tag v row ns p s h net sh = absurd p
+opening-told (Begins handle) entry at tag v row ns p s h net sh =
     λ e. let x = net (p .2) (begun handle) Named (p .0) e in (x .0, x .1, x .2 ∙ ap (encodeNetworks ns) (p .1 (bytesOf row)))
-opening-told (Refuses fault) entry at tag v row ns p net = refused-told ns Same (field at tag v row) fault (placeOf fault entry at)
+opening-told (Refuses fault) entry at tag v row ns p s h net sh = refused-told ns Same (field at tag v row) fault (placeOf fault entry at)
+opening-told Amends entry at tag v row ns p s h net sh =
+    λ e. let x = related-told row ns sh s h (p .0) e in (x .0, x .1, x .2 ∙ ap (encodeNetworks ns) (p .1 (bytesOf row)))
 
 mutual
   unfolding sheet network
@@ -465,7 +560,7 @@ mutual
   sheet-told (overrun at tag k) w = λ ns s h. refused-told ns Same (overrun at tag k) (overrunFault (layoutOf tag k)) at
   sheet-told (field at tag v row) w =
       λ ns s h. opening-told (opens (settingsOf ns) (fieldEntry tag v)) (fieldEntry tag v) at tag v row ns
-      (entry-starts ns tag v (fieldEntry tag v) (entry-means tag v (w .0))) (λ k. network-told row (w .1) ns s k)
+      (entry-starts ns tag v (fieldEntry tag v) (entry-means tag v (w .0))) s h (λ k. network-told row (w .1) ns s k) (sheet-told row (w .1))
 
   network-told : (row : Row) → ByteRow row → (ns : List Network) → SoFar ns → length ns < 8 → NetworkTold row ns
   network-told (stop at) w = λ ns s h n progress p. refused-told ns (encodePart progress n) (stop at) Cut at

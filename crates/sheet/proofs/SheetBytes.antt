@@ -3,11 +3,14 @@ use Rattle.lists.proofs.Basics.{ℕ, _/_, _%_, _<_, arith, List, [], _∷_, Boo
 use Rattle.lists.specs.Lists.{Bytes}
 use Rattle.settings.specs.declared.Transceiver.{Transceiver}
 use Rattle.settings.specs.declared.Transceiver.the-variants.{Absent, Present}
+use Rattle.settings.specs.declared.Relation.{Relation}
+use Rattle.settings.specs.declared.Relation.the-variants.{Above, AtOrAbove}
 use Rattle.settings.specs.declared.Network.{Network}
 use Rattle.settings.specs.declared.Settings.{Settings}
 use Rattle.settings.specs.Settings.{networksOf, controllersOf, listed}
 use Rattle.settings.specs.Good.{Below, InRange, EachInRange, Good}
-use Rattle.sheet.specs.Encode.{byteField, timesField, encodeControllers, encodeTransceiver, bit, encodeNetwork, encodeNetworks, encode}
+use Rattle.sheet.specs.Encode.{byteField, timesField, encodeControllers, encodeTransceiver, bit, encodeRelation, encodeNetwork, encodeNetworks}
+use Rattle.sheet.specs.Encode.{encode}
 
 byte-field : (tag x : ℕ) (l : List ℕ) → tag < 256 → x < 256 → Bytes l → Bytes (byteField tag x l)
 unfolding Bytes
@@ -39,6 +42,11 @@ bit-byte : (b : Bool) → bit b < 256
 bit-byte false = omega arith
 bit-byte true = omega arith
 
+relation : (r : Relation) (l : List ℕ) → Bytes l → Bytes (encodeRelation r l)
+unfolding encodeRelation
+relation Above l b = b
+relation AtOrAbove l b = byte-field 7 1 l (omega arith) (omega arith) b
+
 network : (n : Network) (l : List ℕ) → InRange n → Bytes l → Bytes (encodeNetwork n l)
 unfolding encodeNetwork
 network n l g b =
@@ -47,7 +55,8 @@ network n l g b =
     (transceiver (n .transceiver) _ (g .transceiver)
     (times-field (n .short) (n .long) (n .ensure) _ (g .short .1) (g .long .1) (g .ensure .1)
     (byte-field 5 (n .threshold) _ (omega arith) (omega (arith, g .threshold))
-    (byte-field 6 (bit (n .partial)) l (omega arith) (bit-byte (n .partial)) b)))))
+    (byte-field 6 (bit (n .partial)) _ (omega arith) (bit-byte (n .partial))
+    (relation (n .relation) l b))))))
 
 networks : (ns : List Network) (l : List ℕ) → EachInRange ns → Bytes l → Bytes (encodeNetworks ns l)
 unfolding encodeNetworks EachInRange

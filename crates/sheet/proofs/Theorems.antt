@@ -11,6 +11,7 @@ use Rattle.sheet.specs.Writing.{written, bufferAfter}
 use Rattle.sheet.specs.Reading.{decode}
 use Rattle.sheet.specs.Encode.{encode}
 use Rattle.sheet.specs.Outcomes.{ReadOutcome, WriteOutcome}
+use Rattle.sheet.specs.RoundTrip.{WrittenAsRead}
 use Rattle.sheet.proofs.WriteThenRead as Forth
 use Rattle.sheet.proofs.ReadThenWrite as Back
 use Rattle.sheet.proofs.SheetBytes as All
@@ -34,7 +35,7 @@ buffer-then-read s before g h =
 
 -- ---- 2. back and there
 -- an accepted reading's settings, written, give the very bytes read
-pub read-then-write : (b : List ℕ) → Bytes b → decode b .answer ≡ Accepted → encode (decode b .settings) ≡ b
+pub read-then-write : (b : List ℕ) → Bytes b → WrittenAsRead b (decode b)
 read-then-write = Back.read-then-write
 
 -- one set of settings has one sheet: whatever bytes are accepted as these settings are their sheet
@@ -62,10 +63,10 @@ accepted-place b w e =
     ap (λ (l : List ℕ). decode l .place) (sym s)
     ∙ ap (λ (r : Reading). r .place) (write-then-read (decode b .settings) (accepted-good b w e)) ∙ ap length s
 
--- S12: it has 25 to 328 bytes
-pub accepted-length : (b : List ℕ) → Bytes b → decode b .answer ≡ Accepted → (25 ≤ length b) × (length b ≤ 328)
+-- S12: it has 25 to 360 bytes
+pub accepted-length : (b : List ℕ) → Bytes b → decode b .answer ≡ Accepted → (25 ≤ length b) × (length b ≤ 360)
 accepted-length b w e =
-    subst (λ (l : List ℕ). (25 ≤ length l) × (length l ≤ 328)) (read-then-write b w e) (encode-length (decode b .settings) (accepted-good b w e))
+    subst (λ (l : List ℕ). (25 ≤ length l) × (length l ≤ 360)) (read-then-write b w e) (encode-length (decode b .settings) (accepted-good b w e))
 
 -- the sheet of good settings is bytes
 pub sheet-bytes : (s : Settings) → Good s → Bytes (encode s)

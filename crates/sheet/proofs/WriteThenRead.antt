@@ -1,15 +1,17 @@
 -- What is read from the sheet of good settings is those settings: field by field, network by network.
 use Rattle.lists.proofs.Basics.{ℕ, _+_, _-_, _*_, _/_, _%_, _<_, _≤_, arith, div-add-mod', ne-eqb, lt-leb, _≡_, refl, sym, ap, subst, _∙_, List, []}
 use Rattle.lists.proofs.Basics.{_∷_, _++_, append-nil, append-assoc, Bool, true, false, length, replicate, length-append, append-snoc}
-use Rattle.lists.proofs.Basics.{take-append-seam}
+use Rattle.lists.proofs.Basics.{take-append-seam, set, getD}
 use native.Mathlib.Nat.{zero-add}
 use Rattle.lists.specs.Lists.{padded}
-use Rattle.lists.proofs.Any.{any-append-left, any-append-right}
-use Rattle.lists.proofs.Parts.{padded-set, padded-count}
+use Rattle.lists.proofs.Any.{any-append-left, any-append-right, lastly-snoc}
+use Rattle.lists.proofs.Parts.{padded-set, padded-last, padded-set-last, padded-count}
 use Rattle.fields.specs.Fields.{Row, field, rows, fieldBytes}
 use Rattle.fields.proofs.Laws.{rows-field}
 use Rattle.settings.specs.declared.Transceiver.{Transceiver}
 use Rattle.settings.specs.declared.Transceiver.the-variants.{Absent, Present}
+use Rattle.settings.specs.declared.Relation.{Relation}
+use Rattle.settings.specs.declared.Relation.the-variants.{Above, AtOrAbove}
 use Rattle.settings.specs.declared.Network.{Network}
 use Rattle.settings.specs.declared.Settings.{Settings}
 use Rattle.settings.specs.Settings.{blankNetwork, blankSettings, networksOf, handlesOf, controllersOf, transceiversOf, listed, member}
@@ -18,15 +20,17 @@ use Rattle.settings.proofs.Good.{controllers-counted, fresh-left, fresh-right, 
 use Rattle.entries.specs.declared.Entry.{Entry}
 use Rattle.entries.specs.declared.Progress.{Progress}
 use Rattle.entries.specs.declared.Progress.the-variants.{Named, Listed, Fitted, Timed, Limited}
-use Rattle.entries.specs.declared.Opening.the-variants.{Begins}
+use Rattle.entries.specs.declared.Opening.the-variants.{Begins, Amends}
 use Rattle.sheet.specs.declared.Verdict.the-variants.{Accepted}
 use Rattle.sheet.specs.declared.Reading.{Reading}
 use Rattle.entries.specs.Entries.{layoutOf, byteEntry, timesEntry, wholeEntry, fieldEntry}
-use Rattle.entries.specs.Grammar.{opensWith, opens, begun, more, whole, present, takesController, takesTimes, addController, addTransceiver}
-use Rattle.entries.specs.Grammar.{addTimes, addThreshold, addPartial, onController, onTransceiver, onTimes, onThreshold, onPartial, fills}
-use Rattle.sheet.specs.Reading.{pushed, closed, afterOpening, afterFilling, sheet, network, readFrom, decode}
+use Rattle.entries.specs.Grammar.{opensWith, isAbove, takesRelation, onRelation, addRelation, opens, begun, more, whole, present, takesController}
+use Rattle.entries.specs.Grammar.{takesTimes, addController, addTransceiver, addTimes, addThreshold, addPartial, onController, onTransceiver, onTimes}
+use Rattle.entries.specs.Grammar.{onThreshold, onPartial, fills}
+use Rattle.sheet.specs.Reading.{pushed, lastPlace, amended, closed, afterOpening, afterFilling, sheet, network, readFrom, decode}
 use Rattle.sheet.proofs.Writes.{length-network}
-use Rattle.sheet.specs.Encode.{byteField, timesField, encodeControllers, encodeTransceiver, bit, encodeNetwork, encodeNetworks, encode}
+use Rattle.sheet.specs.Encode.{byteField, timesField, encodeControllers, encodeTransceiver, bit, encodeRelation, encodeNetwork, encodeNetworks}
+use Rattle.sheet.specs.Encode.{encode}
 
 -- ---- settings and networks of which some is read
 -- the settings of some networks
@@ -46,6 +50,7 @@ partOf h cs =
       ensure = 0;
       threshold = 0;
       partial = false;
+      relation = Above;
     }
 
 pub networks-of : (ns : List Network) → networksOf (settingsOf ns) ≡ ns
@@ -57,6 +62,22 @@ controllers-of h cs = take-append-seam cs (replicate (4 - length cs) 0)
 pub push : (ns : List Network) (n : Network) → length ns < 8 → pushed (settingsOf ns) n ≡ settingsOf (ns ++ (n ∷ []))
 unfolding pushed
 push ns n h = λ i. record { networks = padded-set 8 blankNetwork n ns h i; count = sym (length-append ns (n ∷ [])) i }
+
+-- field 07 is that of the last network
+pub amend : (ns : List Network) (n : Network) → amended (settingsOf (ns ++ (n ∷ []))) ≡ settingsOf (ns ++ (addRelation n ∷ []))
+unfolding amended
+amend ns n =
+    let slots : List Network = padded 8 blankNetwork (ns ++ (n ∷ [])) in
+    let counted = length-append ns (n ∷ []) in
+    let place : lastPlace (settingsOf (ns ++ (n ∷ []))) ≡ length ns =
+    ap (λ (l : List Network). length l - 1) (networks-of (ns ++ (n ∷ []))) ∙ omega (arith, counted) in
+    λ i. record {
+      networks =
+          (ap (λ (k : ℕ). set slots k (addRelation (getD slots k blankNetwork))) place
+          ∙ ap (λ (m : Network). set slots (length ns) (addRelation m)) (padded-last 8 blankNetwork n blankNetwork ns)
+          ∙ padded-set-last 8 blankNetwork n (addRelation n) ns) i;
+      count = (counted ∙ sym (length-append ns (addRelation n ∷ []))) i;
+    }
 
 add-controller : (h c : ℕ) (cs : List ℕ) → length cs < 4 → addController (partOf h cs) c ≡ partOf h (cs ++ (c ∷ []))
 unfolding addController
@@ -71,6 +92,7 @@ add-controller h c cs k =
       ensure = 0;
       threshold = 0;
       partial = false;
+      relation = Above;
     }
 
 -- ---- an entry that is taken
@@ -181,30 +203,70 @@ has-present : (t : Transceiver) (b : Bool) → (b ≡ true → t ≡ Absent → 
 has-present Absent b h e = absurd (h e refl)
 has-present (Present v) b h e = refl
 
-abbrev wholeOf : ℕ → List ℕ → Transceiver → ℕ → ℕ → ℕ → ℕ → Bool → Network
-wholeOf h cs t x y z w b =
-    record
-    { handle = h; controllers = padded 4 0 cs; count = length cs; transceiver = t; short = x; long = y; ensure = z; threshold = w; partial = b }
+abbrev wholeOf : ℕ → List ℕ → Transceiver → ℕ → ℕ → ℕ → ℕ → Bool → Relation → Network
+wholeOf h cs t x y z w b r =
+    record {
+      handle = h;
+      controllers = padded 4 0 cs;
+      count = length cs;
+      transceiver = t;
+      short = x;
+      long = y;
+      ensure = z;
+      threshold = w;
+      partial = b;
+      relation = r;
+    }
+
+-- a network without field 07, and its field 07 where it has one
+abbrev related : Relation → Network → Network
+related Above n = n
+related AtOrAbove n = addRelation n
+
+-- ---- field 07
+module _ (ns : List Network) where
+  opens-relation : (n : Network) → n .relation ≡ Above → opens (settingsOf (ns ++ (n ∷ []))) (fieldEntry 7 (1 ∷ [])) ≡ Amends
+  unfolding opens onRelation takesRelation fieldEntry layoutOf wholeEntry byteEntry
+  opens-relation n e = rw (networks-of (ns ++ (n ∷ [])), lastly-snoc (λ (m : Network). isAbove (m .relation)) ns n, e) refl
+
+  relation-run : (n : Network) (r : Relation) (at : ℕ) (l : List ℕ) → n .relation ≡ Above → sheet (rows 0 at (encodeRelation r l))
+      (settingsOf (ns ++ (n ∷ []))) ≡ sheet (rows 0 (at + length (encodeRelation r [])) l) (settingsOf (ns ++ (related r n ∷ [])))
+  unfolding sheet afterOpening encodeRelation
+  relation-run n Above at l e = ap (λ (k : ℕ). sheet (rows 0 k l) (settingsOf (ns ++ (n ∷ [])))) (omega arith)
+  relation-run n AtOrAbove at l e =
+      ap (λ (k : Row). sheet k (settingsOf (ns ++ (n ∷ [])))) (rows-field at 7 (1 ∷ []) l)
+      ∙ rw (opens-relation n e) refl
+      ∙ ap (sheet (rows 0 (at + 3 + 1) l)) (amend ns n)
+      ∙ ap (λ (k : ℕ). sheet (rows 0 k l) (settingsOf (ns ++ (addRelation n ∷ [])))) (omega arith)
 
 module _ (ns : List Network) where
   transceiver-run : (h : ℕ) (cs : List ℕ) (t : Transceiver) (x y z w : ℕ) (b : Bool) (at : ℕ) (l : List ℕ)
       → Below 8 (listed t) → Fresh (all transceiversOf ns) (listed t) → 0 < x → 0 < y → 0 < z → w < 255 → (b ≡ true → present t ≡ true)
       → network (rows 0 at (encodeTransceiver t (timesField x y z (byteField 5 w (byteField 6 (bit b) l))))) (settingsOf ns) (partOf h cs) Listed
-      ≡ sheet (rows 0 (at + 4 * length (listed t) + 17) l) (pushed (settingsOf ns) (wholeOf h cs t x y z w b))
+      ≡ sheet (rows 0 (at + 4 * length (listed t) + 17) l) (pushed (settingsOf ns) (wholeOf h cs t x y z w b Above))
   unfolding encodeTransceiver addPartial addThreshold addTimes addTransceiver Below Fresh
   transceiver-run h cs Absent x y z w b at l g f hx hy hz hw hb =
       end-run ns (partOf h cs) Listed refl x y z w b at l hx hy hz hw hb
-      ∙ ap (λ (n : ℕ). sheet (rows 0 n l) (pushed (settingsOf ns) (wholeOf h cs Absent x y z w b))) (omega arith)
+      ∙ ap (λ (n : ℕ). sheet (rows 0 n l) (pushed (settingsOf ns) (wholeOf h cs Absent x y z w b Above))) (omega arith)
   transceiver-run h cs (Present v) x y z w b at l g f hx hy hz hw hb =
       goes-on at 3 (v ∷ []) (timesField x y z (byteField 5 w (byteField 6 (bit b) l)))
       (settingsOf ns) (partOf h cs) (addTransceiver (partOf h cs) v) Listed Fitted (takes-transceiver ns (partOf h cs) v (g .0) (f .0))
       ∙ end-run ns (addTransceiver (partOf h cs) v) Fitted refl x y z w b (at + 3 + 1) l hx hy hz hw hb
-      ∙ ap (λ (n : ℕ). sheet (rows 0 n l) (pushed (settingsOf ns) (wholeOf h cs (Present v) x y z w b))) (omega arith)
+      ∙ ap (λ (n : ℕ). sheet (rows 0 n l) (pushed (settingsOf ns) (wholeOf h cs (Present v) x y z w b Above))) (omega arith)
 
-  whole-of : (n : Network) →
-      InRange n → wholeOf (n .handle) (controllersOf n) (n .transceiver) (n .short) (n .long) (n .ensure) (n .threshold) (n .partial) ≡ n
+  -- a network as it is read up to field 06
+  abbrev sixOf : Network → Relation → Network
+  sixOf n r = wholeOf (n .handle) (controllersOf n) (n .transceiver) (n .short) (n .long) (n .ensure) (n .threshold) (n .partial) r
+
+  six-related : (n : Network) (r : Relation) → related r (sixOf n Above) ≡ sixOf n r
+  unfolding addRelation
+  six-related n Above = refl
+  six-related n AtOrAbove = refl
+
+  whole-of : (n : Network) → InRange n → related (n .relation) (sixOf n Above) ≡ n
   whole-of n g =
-      λ i. record {
+      six-related n (n .relation)
+      ∙ λ i. record {
         handle = n .handle;
         controllers = sym (g .blank-slots) i;
         count = controllers-counted n g i;
@@ -214,29 +276,34 @@ module _ (ns : List Network) where
         ensure = n .ensure;
         threshold = n .threshold;
         partial = n .partial;
+        relation = n .relation;
       }
 
   -- how many bytes a network has
   size : Network → ℕ
-  size n = 4 + 4 * length (controllersOf n) + 4 * length (transceiversOf n) + 17
+  size n = 4 + 4 * length (controllersOf n) + 4 * length (transceiversOf n) + 17 + length (encodeRelation (n .relation) [])
 
   network-run : (n : Network) (at : ℕ) (l : List ℕ) → InRange n → length ns < 8
       → Fresh (all handlesOf ns) (handlesOf n) → Fresh (all controllersOf ns) (controllersOf n) → Fresh (all transceiversOf ns) (transceiversOf n)
       → sheet (rows 0 at (encodeNetwork n l)) (settingsOf ns) ≡ sheet (rows 0 (at + size n) l) (settingsOf (ns ++ (n ∷ [])))
   unfolding encodeNetwork sheet afterOpening begun size Fresh
   network-run n at l g h fh fc ft =
+      let r2 : List ℕ = encodeRelation (n .relation) l in
       let r1 : List ℕ = encodeTransceiver
-      (n .transceiver) (timesField (n .short) (n .long) (n .ensure) (byteField 5 (n .threshold) (byteField 6 (bit (n .partial)) l))) in
+      (n .transceiver) (timesField (n .short) (n .long) (n .ensure) (byteField 5 (n .threshold) (byteField 6 (bit (n .partial)) r2))) in
       let r0 : List ℕ = encodeControllers (controllersOf n) r1 in
       let u : length (controllersOf n) ≡ n .count = controllers-counted n g in
       let a1 : ℕ = at + 3 + 1 + 4 * length (controllersOf n) in
+      let a2 : ℕ = a1 + 4 * length (transceiversOf n) + 17 in
       ap (λ (r : Row). sheet r (settingsOf ns)) (rows-field at 1 (n .handle ∷ []) r0)
       ∙ rw (opens-handle ns (n .handle) (fh .0) h) refl
       ∙ controllers-first ns
       (n .handle) (controllersOf n) (at + 3 + 1) r1 (omega (arith, g .some-controller)) (omega (arith, g .few-controllers)) (g .controllers) fc
-      ∙ transceiver-run (n .handle) (controllersOf n) (n .transceiver) (n .short) (n .long) (n .ensure) (n .threshold) (n .partial) a1 l
+      ∙ transceiver-run (n .handle) (controllersOf n) (n .transceiver) (n .short) (n .long) (n .ensure) (n .threshold) (n .partial) a1 r2
       (g .transceiver) ft (g .short .0) (g .long .0) (g .ensure .0) (g .threshold) (has-present (n .transceiver) (n .partial) (g .partial))
-      ∙ rw (whole-of n g, push ns n h) (ap (λ (k : ℕ). sheet (rows 0 k l) (settingsOf (ns ++ (n ∷ [])))) (omega arith))
+      ∙ ap (sheet (rows 0 a2 r2)) (push ns (sixOf n Above) h)
+      ∙ relation-run ns (sixOf n Above) (n .relation) a2 l refl
+      ∙ rw (whole-of n g) (ap (λ (k : ℕ). sheet (rows 0 k l) (settingsOf (ns ++ (n ∷ [])))) (omega arith))
 
 length-size : (ns : List Network) (n : Network) (l : List ℕ) → length (encodeNetwork n l) ≡ size ns n + length l
 unfolding size

@@ -4,12 +4,15 @@ use Rattle.lists.proofs.Basics.{sets-eq, lt-leb}
 use Rattle.lists.proofs.Parts.{padded-count}
 use Rattle.settings.specs.declared.Transceiver.{Transceiver}
 use Rattle.settings.specs.declared.Transceiver.the-variants.{Absent, Present}
+use Rattle.settings.specs.declared.Relation.{Relation}
+use Rattle.settings.specs.declared.Relation.the-variants.{Above, AtOrAbove}
 use Rattle.settings.specs.declared.Network.{Network}
 use Rattle.settings.specs.declared.Settings.{Settings}
 use Rattle.settings.specs.Settings.{mostNetworks, mostControllers, blankNetwork, networksOf, controllersOf, listed, transceiversOf}
 use Rattle.settings.specs.Good.{EachInRange, Good}
 use Rattle.sheet.specs.declared.Written.the-variants.{Short, Length}
-use Rattle.sheet.specs.Encode.{byteField, timesField, encodeControllers, encodeTransceiver, bit, encodeNetwork, encodeNetworks, encode}
+use Rattle.sheet.specs.Encode.{byteField, timesField, encodeControllers, encodeTransceiver, bit, encodeRelation, encodeNetwork, encodeNetworks}
+use Rattle.sheet.specs.Encode.{encode}
 use Rattle.sheet.specs.Writing.{written, bufferAfter}
 
 -- ---- a part before what follows it: its own bytes come first
@@ -23,6 +26,11 @@ unfolding encodeTransceiver
 transceiver-before Absent l = refl
 transceiver-before (Present id) l = refl
 
+pub relation-before : (r : Relation) (l : List ℕ) → encodeRelation r l ≡ encodeRelation r [] ++ l
+unfolding encodeRelation
+relation-before Above l = refl
+relation-before AtOrAbove l = refl
+
 -- a network field by field, before what follows it
 abbrev pub fieldsOf : Network → ℕ → List ℕ → List ℕ
 fieldsOf n partial l =
@@ -31,9 +39,9 @@ fieldsOf n partial l =
     ++ (encodeTransceiver (n .transceiver) []
     ++ timesField (n .short) (n .long) (n .ensure)
     (byteField 0x05 (n .threshold)
-    (byteField 0x06 partial l))))
+    (byteField 0x06 partial (encodeRelation (n .relation) l)))))
 
--- the fields are the network, where the last says its partial networking
+-- the fields are the network, where field 06 says its partial networking
 pub network-fields : (n : Network) (partial : ℕ) (l : List ℕ) → partial ≡ bit (n .partial) → fieldsOf n partial l ≡ encodeNetwork n l
 unfolding encodeNetwork
 network-fields n partial l e =
@@ -41,7 +49,7 @@ network-fields n partial l e =
 
 pub network-before : (n : Network) (l : List ℕ) → encodeNetwork n l ≡ encodeNetwork n [] ++ l
 network-before n l =
-    let e : fieldsOf n (bit (n .partial)) l ≡ fieldsOf n (bit (n .partial)) [] ++ l = simp append-assoc in
+    let e : fieldsOf n (bit (n .partial)) l ≡ fieldsOf n (bit (n .partial)) [] ++ l = rw (relation-before (n .relation) l) (simp append-assoc) in
     sym (network-fields n (bit (n .partial)) l refl) ∙ e ∙ ap (λ (k : List ℕ). k ++ l) (network-fields n (bit (n .partial)) [] refl)
 
 pub networks-before : (ns : List Network) (l : List ℕ) → encodeNetworks ns l ≡ encodeNetworks ns [] ++ l
@@ -81,25 +89,37 @@ unfolding encodeTransceiver
 length-transceiver Absent l = omega arith
 length-transceiver (Present id) l = omega arith
 
-pub length-network : (n : Network) (l : List ℕ) →
-    length (encodeNetwork n l) ≡ 21 + 4 * length (controllersOf n) + length (transceiversOf n) * 4 + length l
+pub length-relation : (r : Relation) (l : List ℕ) → length (encodeRelation r l) ≡ length (encodeRelation r []) + length l
+unfolding encodeRelation
+length-relation Above l = omega arith
+length-relation AtOrAbove l = omega arith
+
+pub length-network : (n : Network) (l : List ℕ) → length (encodeNetwork n l)
+    ≡ 21 + 4 * length (controllersOf n) + length (transceiversOf n) * 4 + length (encodeRelation (n .relation) []) + length l
 unfolding encodeNetwork
 length-network n l =
-    let t : List ℕ = timesField (n .short) (n .long) (n .ensure) (byteField 0x05 (n .threshold) (byteField 0x06 (bit (n .partial)) l)) in
+    let r : List ℕ = encodeRelation (n .relation) l in
+    let t : List ℕ = timesField (n .short) (n .long) (n .ensure) (byteField 0x05 (n .threshold) (byteField 0x06 (bit (n .partial)) r)) in
+    let e = length-relation (n .relation) l in
     omega (arith, length-controllers (controllersOf n) (encodeTransceiver (n .transceiver) t), length-transceiver (n .transceiver) t)
 
 -- the same, by the parts whose lengths vary
-pub length-parts : (n : Network) →
-    length (encodeNetwork n []) ≡ 21 + length (encodeControllers (controllersOf n) []) + length (encodeTransceiver (n .transceiver) [])
+pub length-parts : (n : Network) → length (encodeNetwork n [])
+    ≡ 21 + length (encodeControllers (controllersOf n) []) + length (encodeTransceiver (n .transceiver) []) + length (encodeRelation (n .relation) [])
 length-parts n = omega (arith, length-network n [], length-controllers (controllersOf n) [], length-transceiver (n .transceiver) [])
 
 listed-few : (t : Transceiver) → length (listed t) ≤ 1
 listed-few Absent = omega arith
 listed-few (Present id) = omega arith
 
--- a network has 25 to 41 bytes: one to four controllers, and perhaps a transceiver
+relation-few : (r : Relation) → length (encodeRelation r []) ≤ 4
+unfolding encodeRelation
+relation-few Above = omega arith
+relation-few AtOrAbove = omega arith
+
+-- a network has 25 to 45 bytes: one to four controllers, and perhaps a transceiver and field 07
 pub length-networks : (ns : List Network) →
-    EachInRange ns → (25 * length ns ≤ length (encodeNetworks ns [])) × (length (encodeNetworks ns []) ≤ 41 * length ns)
+    EachInRange ns → (25 * length ns ≤ length (encodeNetworks ns [])) × (length (encodeNetworks ns []) ≤ 45 * length ns)
 unfolding encodeNetworks EachInRange
 length-networks [] r = (omega arith, omega arith)
 length-networks (n ∷ ns) r =
@@ -108,10 +128,11 @@ length-networks (n ∷ ns) r =
     padded-count mostControllers 0 (n .controllers) (n .count) (r .0 .few-controllers) (r .0 .blank-slots) in
     let h = r .0 .some-controller in
     let m = r .0 .few-controllers in
-    (omega (arith, length-network n (encodeNetworks ns [])), omega (arith, length-network n (encodeNetworks ns []), listed-few (n .transceiver)))
+    let l = length-network n (encodeNetworks ns []) in
+    (omega arith, omega (arith, listed-few (n .transceiver), relation-few (n .relation)))
 
--- S12: the sheet of good settings has 25 to 328 bytes
-pub encode-length : (s : Settings) → Good s → (25 ≤ length (encode s)) × (length (encode s) ≤ 328)
+-- S12: the sheet of good settings has 25 to 360 bytes
+pub encode-length : (s : Settings) → Good s → (25 ≤ length (encode s)) × (length (encode s) ≤ 360)
 unfolding encode
 encode-length s g =
     let e = length-networks (networksOf s) (g .in-range) in

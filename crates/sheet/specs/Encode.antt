@@ -1,10 +1,12 @@
--- The sheet that settings have: the rules S1 to S9 and S12 of docs/RULES.md. Each part is written before what follows it.
+-- The sheet that settings have: the rules S1 to S9, S12 and S27 of docs/RULES.md. Each part is written before what follows it.
 use Prim.Native.Nat.{ℕ, _/_, _%_}
 use mathlib.Core.List.{List, [], _∷_}
 use mathlib.Core.Bool.{Bool, true, false}
 use Rattle.fields.specs.Fields.{fieldBytes}
 use Rattle.settings.specs.declared.Transceiver.{Transceiver}
 use Rattle.settings.specs.declared.Transceiver.the-variants.{Absent, Present}
+use Rattle.settings.specs.declared.Relation.{Relation}
+use Rattle.settings.specs.declared.Relation.the-variants.{Above, AtOrAbove}
 use Rattle.settings.specs.declared.Network.{Network}
 use Rattle.settings.specs.declared.Settings.{Settings}
 use Rattle.settings.specs.Settings.{networksOf, controllersOf}
@@ -33,7 +35,12 @@ abbrev pub bit : Bool → ℕ
 bit false = 0
 bit true = 1
 
--- S3 to S9: the fields of a network, in the order of the table
+-- S27: field 07, which a network has exactly where it follows the newer relation
+unfoldable pub encodeRelation : Relation → List ℕ → List ℕ
+encodeRelation Above l = l
+encodeRelation AtOrAbove l = byteField 0x07 1 l
+
+-- S3 to S9, S27: the fields of a network, in the order of the table
 unfoldable pub encodeNetwork : Network → List ℕ → List ℕ
 encodeNetwork n l =
     byteField 0x01 (n .handle)
@@ -41,13 +48,14 @@ encodeNetwork n l =
     (encodeTransceiver (n .transceiver)
     (timesField (n .short) (n .long) (n .ensure)
     (byteField 0x05 (n .threshold)
-    (byteField 0x06 (bit (n .partial)) l)))))
+    (byteField 0x06 (bit (n .partial))
+    (encodeRelation (n .relation) l))))))
 
 -- S2: network after network, in the order of the sheet, then what follows them
 unfoldable pub encodeNetworks : List Network → List ℕ → List ℕ
 encodeNetworks [] l = l
 encodeNetworks (n ∷ ns) l = encodeNetwork n (encodeNetworks ns l)
 
--- S2, S12: the sheet of settings; that of good ones has 25 to 328 bytes, which is proved as `encode-length`
+-- S2, S12: the sheet of settings; that of good ones has 25 to 360 bytes, which is proved as `encode-length`
 unfoldable pub encode : Settings → List ℕ
 encode s = encodeNetworks (networksOf s) []

@@ -4,3 +4,4 @@ pub mod Encode
 pub mod Writing
 pub mod Outcomes
 pub mod Bench
+pub mod RoundTrip

@@ -1,13 +1,13 @@
--- What reading a sheet gives, by recursion on the row of fields, as the bytes give it: the rules S2, S13, S24 to S26 and R3 to R5 of docs/RULES.md.
-use Prim.Native.Nat.{ℕ, _+_}
+-- What reading a sheet gives, by recursion on the row of fields, as the bytes give it: the rules S2, S13, S24 to S27 and R3 to R5 of docs/RULES.md.
+use Prim.Native.Nat.{ℕ, _+_, _-_}
 use mathlib.Core.List.{List}
 use mathlib.Core.Bool.{cond}
 use lib.Dec.{eqb}
-use lib.ListN.{set}
+use lib.ListN.{length, getD, set}
 use Rattle.fields.specs.Fields.{Row, stop, stub, overrun, field, rowAt}
 use Rattle.settings.specs.declared.Network.{Network}
 use Rattle.settings.specs.declared.Settings.{Settings}
-use Rattle.settings.specs.Settings.{blankSettings}
+use Rattle.settings.specs.Settings.{blankNetwork, blankSettings, networksOf}
 use Rattle.entries.specs.declared.Fault.{Fault}
 use Rattle.entries.specs.declared.Fault.the-variants.{Cut, Empty}
 use Rattle.entries.specs.declared.Entry.{Entry}
@@ -15,18 +15,27 @@ use Rattle.entries.specs.declared.Entry.the-variants.{Bad}
 use Rattle.entries.specs.declared.Progress.{Progress}
 use Rattle.entries.specs.declared.Progress.the-variants.{Named}
 use Rattle.entries.specs.declared.Opening.{Opening}
-use Rattle.entries.specs.declared.Opening.the-variants.{Closes, Begins, Refuses}
+use Rattle.entries.specs.declared.Opening.the-variants.{Closes, Begins, Refuses, Amends}
 use Rattle.entries.specs.declared.Filling.{Filling}
 use Rattle.entries.specs.declared.Filling.the-variants.{More, Whole}
 use Rattle.sheet.specs.declared.Verdict.{Verdict}
 use Rattle.sheet.specs.declared.Verdict.the-variants.{Accepted}
 use Rattle.sheet.specs.declared.Reading.{Reading}
 use Rattle.entries.specs.Entries.{layoutOf, overrunFault, fieldEntry}
-use Rattle.entries.specs.Grammar.{begun, opens, fills}
+use Rattle.entries.specs.Grammar.{begun, addRelation, opens, fills}
 
 -- the settings with one network more
 unfoldable pub pushed : Settings → Network → Settings
 pushed s n = record { networks = set (s .networks) (s .count) n; count = s .count + 1 }
+
+-- where the last network stands among the slots
+abbrev pub lastPlace : Settings → ℕ
+lastPlace s = length (networksOf s) - 1
+
+-- S27: the settings, of which the last network has field 07
+unfoldable pub amended : Settings → Settings
+amended s =
+    record { networks = set (s .networks) (lastPlace s) (addRelation (getD (s .networks) (lastPlace s) blankNetwork)); count = s .count }
 
 -- S24: a refused field's place is where its tag stands, whatever the fault and the entry are
 abbrev pub placeOf : Fault → Entry → ℕ → ℕ
@@ -40,11 +49,12 @@ refusedAt fault place = record { answer = Verdict.Refused fault; place = place; 
 unfoldable pub closed : Settings → ℕ → Reading
 closed s at = cond (eqb (s .count) 0) (refusedAt Empty 0) (record { answer = Accepted; place = at; settings = s })
 
--- what follows where a network may begin: the end of the sheet, a network with a handle, a refusal
-unfoldable pub afterOpening : Opening → Settings → Entry → ℕ → (ℕ → Reading) → Reading
-afterOpening Closes s entry at begins = closed s at
-afterOpening (Begins handle) s entry at begins = begins handle
-afterOpening (Refuses fault) s entry at begins = refusedAt fault (placeOf fault entry at)
+-- what follows where a network may begin: the end of the sheet, a network with a handle, a refusal, field 07 of the network before
+unfoldable pub afterOpening : Opening → Settings → Entry → ℕ → (ℕ → Reading) → (Settings → Reading) → Reading
+afterOpening Closes s entry at begins goesOn = closed s at
+afterOpening (Begins handle) s entry at begins goesOn = begins handle
+afterOpening (Refuses fault) s entry at begins goesOn = refusedAt fault (placeOf fault entry at)
+afterOpening Amends s entry at begins goesOn = goesOn (amended s)
 
 -- what follows in a network: it goes on, it is whole, a refusal
 unfoldable pub afterFilling : Filling → Network → Entry → ℕ → (Network → Progress → Reading) → (Network → Reading) → Reading
@@ -58,12 +68,14 @@ badAt fault at = refusedAt fault (placeOf fault (Bad fault) at)
 
 -- S2: two definitions that call each other, one for where a network may begin and one for within a network; the row of unread fields gets shorter
 unfoldable mutual
-  -- S2: where a network may begin, or the sheet may end
+  -- S2: where a network may begin, field 07 of the one before may stand, or the sheet may end
   pub sheet : Row → Settings → Reading
   sheet (stop at) s = closed s at
   sheet (stub at tag) s = badAt Cut at
   sheet (overrun at tag n) s = badAt (overrunFault (layoutOf tag n)) at
-  sheet (field at tag v rest) s = afterOpening (opens s (fieldEntry tag v)) s (fieldEntry tag v) at (λ handle. network rest s (begun handle) Named)
+  sheet (field at tag v rest) s =
+      afterOpening (opens s (fieldEntry tag v)) s (fieldEntry tag v) at
+      (λ handle. network rest s (begun handle) Named) (λ more. sheet rest more)
 
   -- S26: within a network, where the bytes may not end
   pub network : Row → Settings → Network → Progress → Reading

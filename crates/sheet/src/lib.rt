@@ -1,15 +1,8 @@
-// Reading a settings sheet and writing it.
-mod reader;
-mod writer;
-
+// What reading a settings sheet and writing it give: types and definitions. The code is in `reading` and `writing`.
 ghost use mathlib.Core.Path.{_≡_};
 ghost use Rattle.sheet.specs.Numbers.{verdictNumber, writtenNumber};
 use entries::Fault;
-pub use reader::read;
-pub use reader::read_from;
 use settings::Settings;
-pub use writer::sheet_length;
-pub use writer::write;
 
 // What writing a sheet gives: its length, or that the lent buffer is too short for it.
 pub enum Written {

@@ -3,13 +3,14 @@
 use fields::Field;
 use libc::STDIN_FILENO;
 use settings::Network;
+use settings::Relation;
 use settings::Settings;
 use settings::Transceiver;
 use sheet::Reading;
 use sheet::Written;
 
 // The lent buffer: room for the largest sheet and some bytes that must stay.
-const ROOM: usize = 336;
+const ROOM: usize = 368;
 // What the lent buffer holds before.
 const FILL: u8 = 0xee;
 // How many bytes after a sheet are shown.
@@ -47,6 +48,14 @@ fn put_partial(partial: bool) {
     }
 }
 
+// A network with field 07 has one number more on its line.
+fn put_relation(relation: Relation) {
+    match relation {
+        Relation::Above => {}
+        Relation::AtOrAbove => printing::put_text(b" 1"),
+    }
+}
+
 fn put_network(case: u64, network: Network) {
     printing::put_digits(case);
     printing::put_text(b" net");
@@ -59,6 +68,8 @@ fn put_network(case: u64, network: Network) {
     printing::put_wide(network.ensure);
     printing::put_byte(network.threshold);
     put_partial(network.partial);
+    let relation = network.relation;
+    put_relation(relation);
     printing::end_line();
 }
 
@@ -97,7 +108,7 @@ fn write_part(settings: Settings, buffer: &mut [u8], length: usize) -> Written {
     if buffer.len() < length {
         return Written::Short;
     }
-    sheet::write(settings, &mut buffer[..length])
+    writing::write(settings, &mut buffer[..length])
 }
 
 // Writes the sheet into a buffer of which so many bytes are lent, and shows its first bytes.
@@ -111,7 +122,7 @@ fn put_back(case: u64, name: &[u8], settings: Settings, lent: usize, shown: usiz
 
 // The sheet written back into a buffer with room for it, and into one that is a byte too short.
 fn put_sheet(case: u64, settings: Settings) {
-    let length = sheet::sheet_length(settings);
+    let length = writing::sheet_length(settings);
     if length == 0 {
         return;
     }
@@ -152,7 +163,7 @@ fn run_cases(input: &[u8]) {
         let from = at + Field::NUMBER;
         let to = from + length;
         case += 1;
-        put_reading(case, sheet::read(&input[from..to]));
+        put_reading(case, reading::read(&input[from..to]));
         at = to;
     }
 }

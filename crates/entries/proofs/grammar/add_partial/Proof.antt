@@ -1,8 +1,0 @@
--- `entries::grammar::add_partial` meets its contract.
-use Rattle.lists.proofs.Basics.{refl}
-use Rattle.entries.proofs.grammar.add_partial.Statement.{statement}
-use Rattle.entries.proofs.grammar.add_partial.Tie as tie
-use Rattle.entries.specs.Grammar.{addPartial}
-
-pub add-partial-spec : {M : Type 1} → statement M
-add-partial-spec = tie.close (tie.spec (λ c. unfold addPartial in refl))

@@ -1,8 +1,0 @@
--- `entries::grammar::add_times` meets its contract.
-use Rattle.lists.proofs.Basics.{refl}
-use Rattle.entries.proofs.grammar.add_times.Statement.{statement}
-use Rattle.entries.proofs.grammar.add_times.Tie as tie
-use Rattle.entries.specs.Grammar.{addTimes}
-
-pub add-times-spec : {M : Type 1} → statement M
-add-times-spec = tie.close (tie.spec (λ c. unfold addTimes in refl))

@@ -1,8 +1,0 @@
--- `entries::grammar::add_transceiver` meets its contract.
-use Rattle.lists.proofs.Basics.{refl}
-use Rattle.entries.proofs.grammar.add_transceiver.Statement.{statement}
-use Rattle.entries.proofs.grammar.add_transceiver.Tie as tie
-use Rattle.entries.specs.Grammar.{addTransceiver}
-
-pub add-transceiver-spec : {M : Type 1} → statement M
-add-transceiver-spec = tie.close (tie.spec (λ c. unfold addTransceiver in refl))

@@ -1,8 +1,0 @@
--- `sheet::reader::refuse` meets its contract.
-use Rattle.lists.proofs.Basics.{needs}
-use Rattle.sheet.proofs.reader.refuse.Statement.{statement}
-use Rattle.sheet.proofs.reader.refuse.Tie as tie
-use Rattle.sheet.specs.Reading.{refusedAt}
-
-pub refuse-spec : {M : Type 1} → statement M
-refuse-spec = tie.close (tie.spec (λ c κs. search needs) (λ c. unfold refusedAt in simp (c .blank .ensures)))
