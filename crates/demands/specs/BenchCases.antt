@@ -98,10 +98,11 @@ atRest = read benchSheet ∷ start ∷ down
 abbrev inStep4 : List Call
 inStep4 = atRest ++ up
 
--- three ticks more, the ensure time, and passed was told: step 5, where E9 and E10 begin
+-- three ticks more, the ensure time
 abbrev ensured : List Call
 ensured = ticks ∷ ticks ∷ ticks ∷ []
 
+-- with them passed was told: step 5, where E9 and E10 begin
 abbrev inStep5 : List Call
 inStep5 = inStep4 ++ ensured
 

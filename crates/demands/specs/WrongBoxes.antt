@@ -171,7 +171,8 @@ module _ where
   refused-bus-off-forgotten = not-running (tellsFull ∷ refusedBusOff ∷ answers ∷ asks ∷ wants 2 ∷ []) refl refl
 
   -- of two controllers, 3 and 4, it asks only the first, and takes its answer for both
-  pub second-not-asked : Answered (networkWith 2 (3 ∷ 4 ∷ 0 ∷ 0 ∷ []) Transceiver.Absent false 1 Relation.Above) (tellsFull ∷ answers ∷ asks ∷ wants 2 ∷ []) → ⊥
+  pub second-not-asked :
+      Answered (networkWith 2 (3 ∷ 4 ∷ 0 ∷ 0 ∷ []) Transceiver.Absent false 1 Relation.Above) (tellsFull ∷ answers ∷ asks ∷ wants 2 ∷ []) → ⊥
   unfolding computedWords
   second-not-asked a = false≢true (a refl 4 refl)
 
