@@ -11,6 +11,7 @@ delays        which delay ends, where the count is below the threshold, at it an
 answers       each number that reading the sheet or an event can be answered with
 refusals      the refusal numbers among the answers
 fields        each refusal of a sheet that its field of a tag can have, where the refusal stands at the field
+places        how far behind the tag a wrong length and a number out of its range are pointed at, in each field, in a first and a later network
 records       each kind of record with each argument
 endings       each way in which the program's output can end
 """
@@ -64,6 +65,16 @@ class Delay(NamedTuple):
     name: str
 
 
+class Place(NamedTuple):
+    """A refusal points into a field: how far behind its tag, which of the three times are 0, and whether it is in a later network than the first."""
+
+    tag: int
+    answer: int
+    distance: int
+    zeros: Tuple[int, ...]
+    later: bool
+
+
 class Transition(NamedTuple):
     """A tick, a bus-off or a stall brings a network of this outfit from a step to a step, perhaps the same."""
 
@@ -110,6 +121,9 @@ REFUSALS_OF_TAG = {
     Tag.PARTIAL_NETWORKING: (Refusal.SHEET_OUT_OF_RANGE, Refusal.SHEET_NO_TRANSCEIVER),
     Tag.RELATION: (Refusal.SHEET_OUT_OF_RANGE,),
 }
+
+# S29: how far behind the tag of field 04 the refusal points, by the numbers of the times that are 0.
+DISTANCE_OF_ZEROS = {(1,): 3, (2,): 5, (3,): 7, (1, 2): 3, (1, 3): 3, (2, 3): 5, (1, 2, 3): 3}
 
 # S8, S27, T13: which delay is due, by the network's rule and by where the count stands to the threshold.
 RULE_NAMES = {Relation.ABOVE: "older", Relation.AT_OR_ABOVE: "newer"}
@@ -201,6 +215,19 @@ def possible_counts() -> Iterator[Tuple[int, bool]]:
             yield step, network.bus_off_count > 0
 
 
+def possible_places() -> Iterator[Place]:
+    """Where a wrong length and a number out of its range can be pointed at."""
+    for later in (False, True):
+        for tag, own in REFUSALS_OF_TAG.items():
+            # S28: behind each tag
+            yield Place(tag, Refusal.SHEET_WRONG_LENGTH, 1, (), later)
+            # S29: a value of one byte has one place
+            if Refusal.SHEET_OUT_OF_RANGE in own and tag != Tag.TIMES:
+                yield Place(tag, Refusal.SHEET_OUT_OF_RANGE, 3, (), later)
+        for zeros, distance in DISTANCE_OF_ZEROS.items():
+            yield Place(Tag.TIMES, Refusal.SHEET_OUT_OF_RANGE, distance, zeros, later)
+
+
 def stall_transitions(outfit: int, step: int) -> Iterator[Transition]:
     """Where a stall takes a network of this outfit from this step; nothing where it is refused."""
     network = model.NetworkRecord(example_settings(outfit), step, [None])
@@ -271,6 +298,7 @@ def possible() -> Dict[str, FrozenSet]:
         "answers": answers,
         "refusals": frozenset(answer for _, answer in answers if answer != model.ACCEPTED),
         "fields": fields,
+        "places": frozenset(possible_places()),
         "records": records,
         "endings": frozenset(Ending.ALL),
     }
@@ -333,6 +361,22 @@ def ending_of(data: bytes, output: str) -> str:
     return Ending.WHOLE
 
 
+def field_starts(data: bytes, place: int) -> List[int]:
+    """Where the fields begin, from the first one to the one in which this place is."""
+    starts = [0]
+    while len(data) - starts[-1] >= Limit.HEADER_BYTES:
+        end = starts[-1] + Limit.HEADER_BYTES + model.two_byte_number(data, starts[-1] + 1)
+        if end > place:
+            break
+        starts.append(end)
+    return starts
+
+
+def zero_times(field: bytes) -> Tuple[int, ...]:
+    """The numbers, from 1 on, of the times of a field 04 that are 0."""
+    return tuple(number for number in (1, 2, 3) if not any(field[2 * number + 1:2 * number + 3]))
+
+
 class Reached:
     """How often each thing was reached, by the names in the first lines of this file."""
 
@@ -369,8 +413,15 @@ class Reached:
 
     def note_field(self, data: bytes, answer: int, place: int) -> None:
         """A sheet was refused at this place, where a field of the table may stand."""
-        if place < len(data) and data[place] in model.LENGTH_OF_TAG:
-            self.times["fields"][data[place], answer] += 1
+        starts = field_starts(data, place)
+        field = data[starts[-1]:]
+        if not field or field[0] not in model.LENGTH_OF_TAG:
+            return
+        self.times["fields"][field[0], answer] += 1
+        if place > starts[-1]:
+            zeros = zero_times(field) if (field[0], answer) == (Tag.TIMES, Refusal.SHEET_OUT_OF_RANGE) else ()
+            later = sum(data[start] == Tag.HANDLE for start in starts) > 1
+            self.times["places"][Place(field[0], answer, place - starts[-1], zeros, later)] += 1
 
     def note_output(self, data: bytes, output: str) -> None:
         """The first line of a whole output, and how it ends."""
@@ -450,6 +501,12 @@ def delay_words(delay: Delay) -> str:
     return f"{delay.rule} rule, {delay.count} the threshold, the {delay.name} delay"
 
 
+def place_words(place: Place) -> str:
+    """Where a refusal points, in words, such as '34 points 5 behind tag 04, times 2, 3 zero, later network'."""
+    zeros = f", times {', '.join(map(str, place.zeros))} zero" if place.zeros else ""
+    return f"{place.answer:02X} points {place.distance} behind tag {place.tag:02X}{zeros}, {'later' if place.later else 'first'} network"
+
+
 def words_of(name: str, thing: object) -> str:
     """One of the things that can be reached, in words."""
     if name == "transitions":
@@ -462,6 +519,8 @@ def words_of(name: str, thing: object) -> str:
         return f"{thing:02X}"
     if name == "fields":
         return f"a field {thing[0]:02X} refused with {thing[1]:02X}"
+    if name == "places":
+        return place_words(thing)
     if name == "counts":
         return f"a bus-off in step {thing[0]}, {yes_or_no('counted', thing[1])}"
     if name == "delays":
@@ -571,6 +630,9 @@ def table(reached: Reached) -> List[str]:
     lines.append("fields of a sheet, tag and the number that it was refused with: times")
     fields = reached.times["fields"]
     lines += rows(f"{tag:02X} {answer:02X}: {fields[tag, answer]}" for tag, answer in sorted(possible()["fields"]))
+    lines.append("where a wrong length and a number out of its range are pointed at: times")
+    places = reached.times["places"]
+    lines += rows(f"{place_words(place)}: {places[place]}" for place in sorted(possible()["places"]))
     lines.append("records, kind:argument: times")
     lines += rows(f"{kind}:{argument}: {records[kind, argument]}" for kind, argument in sorted(possible()["records"]))
     lines.append("endings: times")

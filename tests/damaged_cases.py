@@ -46,7 +46,7 @@ AFTER_THE_SHEET = [
     ("a whole field of tag 09, then a tick", "090001aa 160000", "config 49 25"),
     ("a whole field of tag 0f, then a tick", "0f0000 160000", "config 49 25"),
     ("a field of tag 00, then a tick", "000000 160000", "config 49 25"),
-    ("a field of tag 07 that swallows all events", "07000c 160000 160000 160000 160000", "config 50 25"),
+    ("a field of tag 07 that swallows all events", "07000c 160000 160000 160000 160000", "config 50 26"),
     ("a lone 01", "01", "config 48 25"),
     ("a handle without its value", "010001", "config 48 25"),
 ]
@@ -58,14 +58,14 @@ DAMAGED_SHEETS = [
     ("tag 07", SHEET[:8] + bytes.fromhex("07000100") + SHEET[8:], "config 51 8"),
     ("tag 0f in a second network", SHEET + SECOND[:21] + bytes.fromhex("0f0000") + SECOND[21:], "config 49 46"),
     # S17: 32, another length than the tag has
-    ("handle of length 0", bytes.fromhex("010000") + SHEET[4:], "config 50 0"),
-    ("handle of length 257", bytes.fromhex("010101") + bytes(257) + SHEET[4:], "config 50 0"),
-    ("controller of length 2", HANDLE + bytes.fromhex("0200020304") + SHEET[8:], "config 50 4"),
-    ("transceiver of length 0", SHEET[:8] + bytes.fromhex("030000") + SHEET[8:], "config 50 8"),
-    ("times of length 5", SHEET[:8] + bytes.fromhex("0400050001000100") + SHEET[17:], "config 50 8"),
-    ("times of length 7", SHEET[:8] + bytes.fromhex("04000700010001000100") + SHEET[17:], "config 50 8"),
-    ("threshold of length 65,535, which overruns", SHEET[:17] + bytes.fromhex("05ffff01") + SHEET[21:], "config 50 17"),
-    ("a last field that swallows the tick", SHEET[:21] + bytes.fromhex("06000400"), "config 50 21"),
+    ("handle of length 0", bytes.fromhex("010000") + SHEET[4:], "config 50 1"),
+    ("handle of length 257", bytes.fromhex("010101") + bytes(257) + SHEET[4:], "config 50 1"),
+    ("controller of length 2", HANDLE + bytes.fromhex("0200020304") + SHEET[8:], "config 50 5"),
+    ("transceiver of length 0", SHEET[:8] + bytes.fromhex("030000") + SHEET[8:], "config 50 9"),
+    ("times of length 5", SHEET[:8] + bytes.fromhex("0400050001000100") + SHEET[17:], "config 50 9"),
+    ("times of length 7", SHEET[:8] + bytes.fromhex("04000700010001000100") + SHEET[17:], "config 50 9"),
+    ("threshold of length 65,535, which overruns", SHEET[:17] + bytes.fromhex("05ffff01") + SHEET[21:], "config 50 18"),
+    ("a last field that swallows the tick", SHEET[:21] + bytes.fromhex("06000400"), "config 50 22"),
     # S19: 33, out of the order of fields
     ("controller first", SHEET[4:], "config 51 0"),
     ("handle twice", HANDLE + SHEET, "config 51 4"),
@@ -78,12 +78,12 @@ DAMAGED_SHEETS = [
     ("a second network before the end of the first", SHEET[:21] + SECOND, "config 51 21"),
     ("a controller after the end of a network", SHEET + SECOND[4:], "config 51 25"),
     # S20: 34, out of range
-    ("controller 32", HANDLE + bytes.fromhex("02000120") + SHEET[8:], "config 52 4"),
-    ("transceiver 8", SHEET[:8] + bytes.fromhex("03000108") + SHEET[8:], "config 52 8"),
-    ("long delay zero", SHEET[:13] + bytes(2) + SHEET[15:], "config 52 8"),
-    ("ensure time zero", SHEET[:15] + bytes(2) + SHEET[17:], "config 52 8"),
-    ("partial networking 2, before 37", SHEET[:24] + b"\x02", "config 52 21"),
-    ("controller 255 in a second network", SHEET + SECOND[:7] + b"\xff" + SECOND[8:], "config 52 29"),
+    ("controller 32", HANDLE + bytes.fromhex("02000120") + SHEET[8:], "config 52 7"),
+    ("transceiver 8", SHEET[:8] + bytes.fromhex("03000108") + SHEET[8:], "config 52 11"),
+    ("E5, long delay zero", SHEET[:13] + bytes(2) + SHEET[15:], "config 52 13"),
+    ("ensure time zero", SHEET[:15] + bytes(2) + SHEET[17:], "config 52 15"),
+    ("partial networking 2, before 37", SHEET[:24] + b"\x02", "config 52 24"),
+    ("controller 255 in a second network", SHEET + SECOND[:7] + b"\xff" + SECOND[8:], "config 52 32"),
     # S21: 35, the id was used before
     ("the handle of the first network", SHEET + HANDLE + SECOND[4:], "config 53 25"),
     ("the controller of the first network", SHEET + SECOND[:4] + CONTROLLER + SECOND[8:], "config 53 29"),
@@ -125,13 +125,13 @@ def sheet_cases() -> Iterator[Case]:
 # S27: what follows the 25-byte sheet, in hexadecimal, and then a tick.
 AFTER_FIELD_06 = [
     ("field 07", "07000101", "1 0 1:3:0"),
-    ("field 07 of value 0", "07000100", "config 52 25"),
-    ("field 07 of value 2", "07000102", "config 52 25"),
-    ("field 07 of value 255", "070001ff", "config 52 25"),
-    ("field 07 of length 0", "070000", "config 50 25"),
-    ("field 07 of length 2", "0700020101", "config 50 25"),
-    ("field 07 that swallows the tick", "070004 01", "config 50 25"),
-    ("field 07 that overruns", "07ffff 01", "config 50 25"),
+    ("field 07 of value 0", "07000100", "config 52 28"),
+    ("field 07 of value 2", "07000102", "config 52 28"),
+    ("field 07 of value 255", "070001ff", "config 52 28"),
+    ("field 07 of length 0", "070000", "config 50 26"),
+    ("field 07 of length 2", "0700020101", "config 50 26"),
+    ("field 07 that swallows the tick", "070004 01", "config 50 26"),
+    ("field 07 that overruns", "07ffff 01", "config 50 26"),
     ("field 07 twice", "07000101 07000101", "config 51 29"),
     ("field 07 twice, the second of value 0", "07000101 07000100", "config 51 29"),
     ("field 07 and partial networking again", "07000101 06000100", "config 51 29"),
@@ -161,11 +161,11 @@ DAMAGED_BY_FIELD_07 = [
     ("field 07 after the threshold", SHEET[:21] + NEWER_RULE + SHEET[21:], "config 51 21"),
     ("field 07 in place of partial networking", SHEET[:21] + NEWER_RULE, "config 51 21"),
     ("field 07 in a second network, before its field 06", SHEET + NEWER_RULE + SECOND[:21] + NEWER_RULE, "config 51 50"),
-    ("field 07 of value 2 in a second network", SHEET + NEWER_RULE + SECOND + bytes.fromhex("07000102"), "config 52 54"),
+    ("field 07 of value 2 in a second network", SHEET + NEWER_RULE + SECOND + bytes.fromhex("07000102"), "config 52 57"),
     ("field 07 in a network with partial networking and no transceiver", SHEET[:24] + b"\x01" + NEWER_RULE, "config 55 21"),
     ("the controller of the first network after field 07", SHEET + NEWER_RULE + SECOND[:4] + CONTROLLER, "config 53 33"),
     ("field 07 twice after the largest sheet", LARGEST_OF_ALL + NEWER_RULE, "config 51 360"),
-    ("field 07 of value 0 after eight networks", LARGEST_SHEET + field(Tag.RELATION, 0), "config 52 328"),
+    ("field 07 of value 0 after eight networks", LARGEST_SHEET + field(Tag.RELATION, 0), "config 52 331"),
     ("a ninth network after field 07", LARGEST_OF_ALL + field(Tag.HANDLE, 1), "config 54 360"),
     ("a ninth network with a used handle after field 07", LARGEST_OF_ALL + field(Tag.HANDLE, 255), "config 53 360"),
 ]
@@ -184,6 +184,51 @@ def field_07_cases() -> Iterator[Case]:
     yield Case("field 07 as an event", SHEET + TICK + NEWER_RULE, "stop 28")
     yield Case("a transceiver without its value", SHEET[:8] + TRANSCEIVER[:3], "config 48 8")
     yield Case("the largest sheet of all, and a tick that is cut", LARGEST_OF_ALL + TICK[:2], "stop 360")
+
+
+# A network with each of the seven fields. They begin at 0, 4, 8, 12, 21, 25 and 29, and the three times at 15, 17 and 19, with a high byte of 0.
+EVERY_FIELD = bytes.fromhex("01000108 02000104 03000105 040006000200050003 05000101 06000100 07000101")
+
+# S28, S29: bytes of it that are changed, by their places, and the refusal with the place that it points at.
+POINTED_AT = [
+    ("controller 32", {7: 32}, 52, 7),
+    ("transceiver 8", {11: 8}, 52, 11),
+    ("short delay 0", {16: 0}, 52, 15),
+    ("long delay 0", {18: 0}, 52, 17),
+    ("ensure time 0", {20: 0}, 52, 19),
+    ("short and long delay 0", {16: 0, 18: 0}, 52, 15),
+    ("short delay and ensure time 0", {16: 0, 20: 0}, 52, 15),
+    ("long delay and ensure time 0", {18: 0, 20: 0}, 52, 17),
+    ("all three times 0", {16: 0, 18: 0, 20: 0}, 52, 15),
+    ("long delay 0 after a short delay of 512", {15: 2, 16: 0, 18: 0}, 52, 17),
+    ("threshold 255", {24: 255}, 52, 24),
+    ("partial networking 2", {28: 2}, 52, 28),
+    ("field 07 of value 0", {32: 0}, 52, 32),
+    ("handle of length 0", {2: 0}, 50, 1),
+    ("handle of length 257", {1: 1}, 50, 1),
+    ("controller of length 0", {6: 0}, 50, 5),
+    ("controller of length 257", {5: 1}, 50, 5),
+    ("transceiver of length 2", {10: 2}, 50, 9),
+    ("transceiver of length 257", {9: 1}, 50, 9),
+    ("times of length 5", {14: 5}, 50, 13),
+    ("times of length 262", {13: 1}, 50, 13),
+    ("threshold of length 0", {23: 0}, 50, 22),
+    ("threshold of length 257", {22: 1}, 50, 22),
+    ("partial networking of length 3", {27: 3}, 50, 26),
+    ("partial networking of length 257", {26: 1}, 50, 26),
+    ("field 07 of length 0", {31: 0}, 50, 30),
+    ("field 07 of length 257", {30: 1}, 50, 30),
+]
+
+
+def pointed_at_cases() -> Iterator[Case]:
+    """A number out of its range and a wrong length in each field: in the first network, in a second one, and as the very last bytes."""
+    for words, changes, refusal, place in POINTED_AT:
+        spoilt = bytes(changes.get(index, byte) for index, byte in enumerate(EVERY_FIELD))
+        yield Case(f"pointed at: {words}", spoilt + TICK, f"config {refusal} {place}")
+        yield Case(f"pointed at: {words}, in a second network", SHEET + spoilt + TICK, f"config {refusal} {25 + place}")
+        if refusal == 50:
+            yield Case(f"pointed at: {words}, at the very end", SHEET + spoilt[:place + 2], f"config 50 {25 + place}")
 
 
 # ---------------------------------------------------------------------------

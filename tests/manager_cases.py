@@ -71,6 +71,8 @@ NEWER_RULE = bytes.fromhex("07000101")
 BY_NEWER_RULE = SHEET + NEWER_RULE
 LARGEST_BY_NEWER_RULE = b"".join(each + NEWER_RULE for each in LARGE)
 BOTH_RULES = network(1, [10], threshold=2) + network(2, [11], threshold=2) + NEWER_RULE
+# A network with each of the seven fields. They begin at 0, 4, 8, 12, 21, 25 and 29, and the three times at 15, 17 and 19, with a high byte of 0.
+EVERY_FIELD = network(8, [4], 6) + NEWER_RULE
 
 # ---------------------------------------------------------------------------
 # Runs of calls
@@ -492,11 +494,34 @@ AT_THE_THRESHOLD = [
     ],
 ]
 
+
+def spoilt(places, value):
+    """The network with each of the seven fields, with this value at these places."""
+    return bytes(value if place in places else byte for place, byte in enumerate(EVERY_FIELD))
+
+
+# S29: each number of one byte out of its range; of the three times each, two of them, and all, by their low bytes.
+OUT_OF_RANGE = [spoilt([7], 32), spoilt([11], 8), spoilt([24], 255), spoilt([28], 2), spoilt([32], 0)]
+OUT_OF_RANGE += [spoilt(zeros, 0) for zeros in ([16], [18], [20], [16, 18], [16, 20], [18, 20], [16, 18, 20])]
+# S28: each length wrong in its low byte, and in its high byte.
+WRONG_LENGTH = [spoilt([place], 2) for place in (2, 6, 10, 14, 23, 27, 31)] + [spoilt([place], 1) for place in (1, 5, 9, 13, 22, 26, 30)]
+
+WHERE_A_READING_IS_REFUSED = [
+    # In the first network and in a second one; and a wrong length as the very last bytes.
+    [("new",), *(("read", before + sheet) for sheet in OUT_OF_RANGE + WRONG_LENGTH for before in (b"", SHEET))],
+    [("new",), *(("read", SHEET + WRONG_LENGTH[index][:end]) for index, end in enumerate((3, 7, 11, 15, 24, 28, 32)))],
+    # The former sheet stays in force. After the start the place is 0, whatever the bytes are.
+    [
+        ("new",), ("read", EVERY_FIELD), ("read", OUT_OF_RANGE[6]), ("write", 33), ("read", WRONG_LENGTH[3]), ("write", 33), ("start",),
+        ("read", OUT_OF_RANGE[6]), ("read", WRONG_LENGTH[3]), ("write", 33), ("tick", 8), ("tick", 9), ("poll", 8),
+    ],
+]
+
 CALLS = [
     call
     for cases in (
         WHOLE_CASE, BENCH_CASES, REFUSALS, PARTIAL_NETWORKING, TWO_NETWORKS, STALLS, SILENT_TOLD_APART, ONE_FAULT_OF_TWO_CHIPS, FIELD_07,
-        AT_THE_THRESHOLD,
+        AT_THE_THRESHOLD, WHERE_A_READING_IS_REFUSED,
     )
     for case in cases
     for call in case

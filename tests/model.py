@@ -430,6 +430,21 @@ def content_refusal(tag: int, value: bytes, last_tag: int, networks: List[Settin
     return ACCEPTED
 
 
+def refused_at(refusal: int, data: bytes, place: int) -> int:
+    """Where a refusal points, of the field whose tag stands at this place."""
+    # S28: at the first length byte
+    if refusal == Refusal.SHEET_WRONG_LENGTH:
+        return place + 1
+    value_place = place + Limit.HEADER_BYTES
+    # S29: at the first byte of the number that is out of its range; of the three times it is the first that is 0
+    if refusal == Refusal.SHEET_OUT_OF_RANGE and data[place] == Tag.TIMES:
+        return value_place + 2 * times_of(data[value_place:]).index(0)
+    if refusal == Refusal.SHEET_OUT_OF_RANGE:
+        return value_place
+    # S24: every other one at the tag
+    return place
+
+
 def keep_field(tag: int, value: bytes, networks: List[Settings]) -> None:
     """Store one good field: a handle begins a network, the others belong to the last one."""
     if tag == Tag.HANDLE:
@@ -458,15 +473,14 @@ def read_sheet(data: bytes) -> Reading:
     place = 0
     while place < len(data):
         refusal = layout_refusal(data, place)
-        # S24: a refused field's place is that of its tag
         if refusal != ACCEPTED:
-            return Reading(refusal, place, [])
+            return Reading(refusal, refused_at(refusal, data, place), [])
         tag = data[place]
         value_place = place + Limit.HEADER_BYTES
         value = data[value_place:value_place + LENGTH_OF_TAG[tag]]
         refusal = content_refusal(tag, value, last_tag, networks)
         if refusal != ACCEPTED:
-            return Reading(refusal, place, [])
+            return Reading(refusal, refused_at(refusal, data, place), [])
         keep_field(tag, value, networks)
         last_tag = tag
         place = value_place + len(value)

@@ -276,16 +276,26 @@ def foreign_field(random: Random, data: bytes) -> bytes:
     return b"".join(fields)
 
 
+def wrong_length(random: Random, data: bytes) -> bytes:
+    """A field says a length that may be another than it has."""
+    fields = split_fields(data)
+    chosen = random.randrange(len(fields))
+    length = random.choice((0, 1, 2, 5, 6, 7, 256, 257, 262, 65535))
+    fields[chosen] = fields[chosen][:1] + length.to_bytes(2, "big") + fields[chosen][Limit.HEADER_BYTES:]
+    return b"".join(fields)
+
+
 def edge_value(random: Random, network: model.Settings) -> None:
-    """One value stands at the end of its range, or just beyond."""
-    beyond = random.randrange(2)
-    place = random.randrange(5)
+    """One value stands at the end of its range, or just beyond; of the three times one or several."""
+    beyond = random.choice((0, 1, 1))
+    place = random.choice((0, 1, 2, 2, 2, 3, 4))
     if place == 0:
         network.controllers[-1] = Limit.CONTROLLER_ID + beyond
     elif place == 1:
         network.transceiver = Limit.TRANSCEIVER_ID + beyond
     elif place == 2:
-        setattr(network, random.choice(("short_delay", "long_delay", "ensure_time")), 1 - beyond)
+        for name in random.sample(("short_delay", "long_delay", "ensure_time"), random.choice((1, 1, 2, 3))):
+            setattr(network, name, 1 - beyond)
     elif place == 3:
         network.threshold = Limit.THRESHOLD + beyond
     else:
@@ -296,7 +306,7 @@ def broken_sheet(random: Random, sheet: bytes) -> bytes:
     """A sheet in good order of fields that breaks a rule on what they say, or nearly so."""
     networks = model.read_sheet(sheet).networks
     chosen, other = random.choice(networks), random.choice(networks)
-    way = random.randrange(8)
+    way = random.randrange(12)
     if way == 0:
         networks.append(deepcopy(chosen))
     elif way == 1:
@@ -316,7 +326,7 @@ def broken_sheet(random: Random, sheet: bytes) -> bytes:
     return model.write_sheet(networks)
 
 
-DAMAGES_OF_FIELDS = (swap_fields, double_field, drop_field, foreign_field)
+DAMAGES_OF_FIELDS = (swap_fields, double_field, drop_field, foreign_field, wrong_length)
 DAMAGES_OF_BYTES = (flip, flip, cut, drop, insert)
 
 

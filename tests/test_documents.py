@@ -127,6 +127,21 @@ def edits() -> Set[str]:
     return {path.stem for path in CRATES.glob(EDIT_FILES)}
 
 
+def edit_faults(crate: Path, edit: str) -> Iterator[str]:
+    """Why an edit of a crate cannot be made: its texts are put in one after the other, and each old one has to stand once by then."""
+    name, text, old = "", "", ""
+    for line in edit.splitlines():
+        key, _, rest = line.partition(": ")
+        if key == "file":
+            name, text = rest, (crate / rest).read_text(encoding="utf-8")
+        elif key == "old":
+            old = rest
+            if text.count(old) != 1:
+                yield f"'{old.strip()}' stands {text.count(old)} times in {name}"
+        elif key == "new":
+            text = text.replace(old, rest)
+
+
 def crates() -> List[str]:
     """The crates of crates.txt."""
     lines = (ROOT / "crates.txt").read_text(encoding="utf-8").splitlines()
@@ -540,6 +555,10 @@ class Documents(unittest.TestCase):
         self.assertTrue(edits())
         self.assert_none([f"{TRACE} does not name the edit {name}" for name in sorted(edits()) if f"`{name}`" not in documents()[TRACE]])
 
+    def test_every_edit_can_be_made(self):
+        texts = {path: path.read_text(encoding="utf-8") for path in CRATES.glob(EDIT_FILES)}
+        self.assert_none([f"{path.stem}: {fault}" for path, edit in texts.items() for fault in edit_faults(path.parent.parent, edit)])
+
     def test_numbers_are_the_counted_ones(self):
         self.assert_none(unstated("\n".join(documents().values()), counted()))
         self.assert_none([fault for document, text in documents().items() for fault in number_faults(document, text, counted())])
@@ -560,7 +579,7 @@ class Documents(unittest.TestCase):
         self.assertIn(script.splitlines(), shown)
         for example, begin, length in (
             ("first", "11 0 ", 6), ("stall", "14 0 ", 10), ("silent", "7 8 ", 2), ("silent", "11 36 ", 2), ("silent", "22 37 ", 2),
-            ("two-chips", "16 0 ", 7),
+            ("two-chips", "16 0 ", 7), ("refused-sheet", "config 52 ", 3),
         ):
             explained = [sys.executable, "-B", "tools/recording", "explain", f"examples/{example}.script", f"examples/{example}.txt"]
             words = subprocess.run(explained, cwd=ROOT, stdout=subprocess.PIPE, check=True).stdout.decode().splitlines()
@@ -587,6 +606,18 @@ class FaultsAreFound(unittest.TestCase):
     def test_paths(self):
         self.assertEqual(len(path_faults("README.md", "`crates/nothing/src` `tests/nothing.py` `Nothing.antt` `manager/src/lib.rt`")), 4)
         self.assertEqual(path_faults(TRACE, "`manager/src/lib.rt`, `crates/NAME/must-fail/*.edit`, `target/bin/x`, `Careful.antt`"), [])
+
+    def test_edits(self):
+        with tempfile.TemporaryDirectory() as folder:
+            (Path(folder) / "code").write_text("one\n  two\ntwo\n", encoding="utf-8")
+            for edit, faults in (
+                ("# a: b\nfile: code\nold: one\nnew: three\nold: three\nnew: two", 0),
+                ("file: code\nold:   two\nnew:   four\nold: two\nnew: one", 0),
+                ("file: code\nold: two\nnew: four", 1),
+                ("file: code\nold: three\nnew: four", 1),
+                ("file: code\nold: one\nnew: two\nold: two\nnew: one", 1),
+            ):
+                self.assertEqual(len(list(edit_faults(Path(folder), edit))), faults)
 
     def test_names(self):
         wrong = [

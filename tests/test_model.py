@@ -7,10 +7,12 @@ The expected values here are written by hand from the rules; none is made by the
 import random
 import unittest
 from copy import deepcopy
+from unittest import mock
 
 import manager_cases
 import model
 import sheet_cases
+import trace_cases
 from model import Kind, Manager, Mode, Outfit, Relation
 
 BENCH_SHEET = bytes.fromhex("01000107 02000103 040006000200050003 05000101 06000100")
@@ -168,9 +170,10 @@ class WorkedExamples(unittest.TestCase):
         self.assertEqual(self.reading(BENCH_SHEET[:24]), (0x30, 21, 0))
         self.assertEqual(self.reading(BENCH_SHEET[:21]), (0x30, 21, 0))
 
-    def test_e5_short_delay_zero(self):
-        sheet = BENCH_SHEET[:11] + b"\x00\x00" + BENCH_SHEET[13:]
-        self.assertEqual(self.reading(sheet), (0x34, 8, 0))
+    def test_e5_a_delay_of_zero(self):
+        for place in (11, 13):
+            sheet = BENCH_SHEET[:place] + b"\x00\x00" + BENCH_SHEET[place + 2:]
+            self.assertEqual(self.reading(sheet), (0x34, place, 0))
 
     def test_e6_controller_field_twice(self):
         sheet = BENCH_SHEET[:8] + BENCH_SHEET[4:8] + BENCH_SHEET[8:]
@@ -178,7 +181,7 @@ class WorkedExamples(unittest.TestCase):
 
     def test_e7_threshold(self):
         self.assertEqual(self.reading(BENCH_SHEET[:20] + b"\xfe" + BENCH_SHEET[21:]), (0, 25, 1))
-        self.assertEqual(self.reading(BENCH_SHEET[:20] + b"\xff" + BENCH_SHEET[21:]), (0x34, 17, 0))
+        self.assertEqual(self.reading(BENCH_SHEET[:20] + b"\xff" + BENCH_SHEET[21:]), (0x34, 20, 0))
 
     def test_e8_partial_networking_without_transceiver(self):
         self.assertEqual(self.reading(BENCH_SHEET[:24] + b"\x01"), (0x37, 21, 0))
@@ -271,8 +274,8 @@ class Program(unittest.TestCase):
         self.assertEqual(self.after_bench_sheet("090000 160000"), "config 49 25\n")
 
     def test_cut_field_before_an_event_makes_all_the_rest_sheet(self):
-        self.assertEqual(self.after_bench_sheet("0200ff 160000"), "config 50 25\n")
-        self.assertEqual(self.after_bench_sheet("0100ff 160000"), "config 50 25\n")
+        self.assertEqual(self.after_bench_sheet("0200ff 160000"), "config 50 26\n")
+        self.assertEqual(self.after_bench_sheet("0100ff 160000"), "config 50 26\n")
 
     def test_empty_input(self):
         self.assertEqual(model.cantrace(b""), "config 56 0\n")
@@ -516,16 +519,16 @@ class Field07(unittest.TestCase):
 
     def test_its_one_value_is_1(self):
         for value in range(256):
-            expected = (0, 29, 1) if value == 1 else (0x34, 25, 0)
+            expected = (0, 29, 1) if value == 1 else (0x34, 28, 0)
             self.assertEqual(self.reading(BENCH_SHEET, bytes([7, 0, 1, value])), expected)
-        self.assertEqual(self.reading(BENCH_SHEET, b"\x07\x00\x01\x00", SECOND_SHEET), (0x34, 25, 0))
+        self.assertEqual(self.reading(BENCH_SHEET, b"\x07\x00\x01\x00", SECOND_SHEET), (0x34, 28, 0))
 
     def test_its_length_is_1(self):
         for field in ("070000", "0700020101", "070002", "07000201", "07010101", "07ffff"):
             with self.subTest(field=field):
-                self.assertEqual(self.reading(BENCH_SHEET, bytes.fromhex(field)), (0x32, 25, 0))
-                self.assertEqual(self.reading(bytes.fromhex(field), BENCH_SHEET), (0x32, 0, 0))
-                self.assertEqual(self.reading(BENCH_SHEET, FIELD_07, bytes.fromhex(field)), (0x32, 29, 0))
+                self.assertEqual(self.reading(BENCH_SHEET, bytes.fromhex(field)), (0x32, 26, 0))
+                self.assertEqual(self.reading(bytes.fromhex(field), BENCH_SHEET), (0x32, 1, 0))
+                self.assertEqual(self.reading(BENCH_SHEET, FIELD_07, bytes.fromhex(field)), (0x32, 30, 0))
 
     def test_it_is_cut(self):
         for field in ("07", "0700", "070001"):
@@ -542,7 +545,7 @@ class Field07(unittest.TestCase):
         self.assertEqual(self.reading(BENCH_SHEET, FIELD_07, BENCH_SHEET), (0x35, 29, 0))
         self.assertEqual(self.reading(BENCH_SHEET, FIELD_07, SECOND_SHEET[:4], BENCH_SHEET[4:8]), (0x35, 33, 0))
         self.assertEqual(self.reading(BENCH_SHEET, FIELD_07, SECOND_SHEET[:21]), (0x30, 50, 0))
-        self.assertEqual(self.reading(BENCH_SHEET, FIELD_07, SECOND_SHEET[:20] + b"\xff"), (0x34, 46, 0))
+        self.assertEqual(self.reading(BENCH_SHEET, FIELD_07, SECOND_SHEET[:20] + b"\xff"), (0x34, 49, 0))
         self.assertEqual(self.reading(BENCH_SHEET, FIELD_07, SECOND_SHEET[:24] + b"\x01"), (0x37, 50, 0))
 
     def test_tag_08_is_unknown(self):
@@ -552,7 +555,7 @@ class Field07(unittest.TestCase):
 
     def test_after_the_eighth_network(self):
         self.assertEqual(self.reading(*self.EIGHT, FIELD_07), (0, 332, 8))
-        self.assertEqual(self.reading(*self.EIGHT, b"\x07\x00\x01\x00"), (0x34, 328, 0))
+        self.assertEqual(self.reading(*self.EIGHT, b"\x07\x00\x01\x00"), (0x34, 331, 0))
         self.assertEqual(self.reading(*self.EIGHT, FIELD_07, FIELD_07), (0x33, 332, 0))
         self.assertEqual(self.reading(*self.EIGHT, FIELD_07, b"\x01\x00\x01\x08"), (0x36, 332, 0))
         self.assertEqual(self.reading(*self.EIGHT, FIELD_07, b"\x01\x00\x01\x07"), (0x35, 332, 0))
@@ -587,8 +590,187 @@ class Field07(unittest.TestCase):
 
     def test_the_program_takes_it_for_a_field_of_the_sheet(self):
         self.assertEqual(model.cantrace(BENCH_SHEET + FIELD_07 + b"\x16\x00\x00"), "config 0 1\n1 0 1:3:0\n")
-        self.assertEqual(model.cantrace(BENCH_SHEET + b"\x07\x00\x01\x00\x16\x00\x00"), "config 52 25\n")
+        self.assertEqual(model.cantrace(BENCH_SHEET + b"\x07\x00\x01\x00\x16\x00\x00"), "config 52 28\n")
         self.assertEqual(model.cantrace(BENCH_SHEET + b"\x16\x00\x00" + FIELD_07), "config 0 1\n1 0 1:3:0\nstop 28\n")
+
+
+class Places(unittest.TestCase):
+    """S24, S28, S29: where a refusal of a sheet points."""
+
+    # A network with each of the seven fields, which begin at 0, 4, 8, 12, 21, 25 and 29.
+    NETWORK = bytes.fromhex("010001ff 0200011f 03000107 040006000200050003 05000101 06000100 07000101")
+    # What stands before it: nothing, a network of 25 bytes, seven of 41.
+    BEFORE = (b"", BENCH_SHEET, b"".join(large_network(number) for number in range(7)))
+
+    def check(self, network, refusal, place):
+        """The network is refused so, wherever it stands in a sheet."""
+        for before in self.BEFORE:
+            reading = model.read_sheet(before + network)
+            self.assertEqual((reading.refusal, reading.place, reading.networks), (refusal, len(before) + place, []))
+
+    def changed(self, place, value):
+        """The network with these bytes from this place on."""
+        return self.NETWORK[:place] + value + self.NETWORK[place + len(value):]
+
+    def test_the_network_is_a_good_one(self):
+        for before in self.BEFORE:
+            self.assertEqual(model.read_sheet(before + self.NETWORK).refusal, 0)
+
+    def test_34_points_at_the_number_of_one_byte(self):
+        for place, values in ((7, (32, 128, 255)), (11, (8, 128, 255)), (24, (255,)), (28, (2, 255)), (32, (0, 2, 255))):
+            for value in values:
+                self.check(self.changed(place, bytes([value])), 0x34, place)
+                self.check(self.changed(place, bytes([value]))[:place + 1], 0x34, place)
+
+    def test_34_points_at_the_first_time_that_is_0(self):
+        for times, place in (
+            ("0000 0005 0003", 15), ("0002 0000 0003", 17), ("0002 0005 0000", 19),
+            ("0000 0000 0003", 15), ("0000 0005 0000", 15), ("0002 0000 0000", 17), ("0000 0000 0000", 15),
+            # A byte of 0 is no number of 0.
+            ("0100 0000 0003", 17), ("0100 0100 0000", 19), ("00ff 0000 0100", 17), ("ffff ffff 0000", 19), ("0001 0001 0000", 19),
+        ):
+            with self.subTest(times=times):
+                self.check(self.changed(15, bytes.fromhex(times)), 0x34, place)
+                self.check(self.changed(15, bytes.fromhex(times))[:21], 0x34, place)
+
+    def test_32_points_at_the_first_length_byte(self):
+        for place, right in ((1, 1), (5, 1), (9, 1), (13, 6), (22, 1), (26, 1), (30, 1)):
+            for length in {0, 1, 2, 5, 6, 7, 255, 256, 257, 262, 65535} - {right}:
+                with self.subTest(place=place, length=length):
+                    wrong = self.changed(place, length.to_bytes(2, "big"))
+                    # With all bytes there, with few, and as the very last ones; most of these lengths run past the end.
+                    for sheet in (wrong + bytes(300), wrong, wrong[:place + 3], wrong[:place + 2]):
+                        self.check(sheet, 0x32, place)
+                    self.check(wrong[:place + 1], 0x30, place - 1)
+
+    def test_every_other_refusal_points_at_the_tag(self):
+        for network, refusal, place in (
+            (self.NETWORK[:6], 0x30, 4),
+            (self.NETWORK[:20], 0x30, 12),
+            (self.changed(21, b"\x08"), 0x31, 21),
+            (self.changed(21, b"\x08\xff\xff"), 0x31, 21),
+            (self.changed(8, b"\x05"), 0x33, 8),
+            (self.changed(8, b"\x05\x00\x01\xff"), 0x33, 8),
+            (self.NETWORK[:8] + self.NETWORK[4:], 0x35, 8),
+            (self.NETWORK + self.NETWORK, 0x35, 33),
+            (self.NETWORK[:8] + b"\x06\x00\x01\x01", 0x33, 8),
+            (self.NETWORK[:8] + self.NETWORK[12:28] + b"\x01", 0x37, 21),
+            (self.NETWORK[:21], 0x30, 21),
+            (self.NETWORK[:4], 0x30, 4),
+        ):
+            with self.subTest(refusal=refusal, place=place):
+                self.check(network, refusal, place)
+        fifth = BENCH_SHEET[:4] + b"".join(bytes([2, 0, 1, number]) for number in range(5))
+        self.assertEqual(model.read_sheet(fifth)[:2], (0x36, 20))
+        self.assertEqual(model.read_sheet(b"".join(large_network(number) for number in range(8)) + BENCH_SHEET)[:2], (0x35, 328))
+        self.assertEqual(model.read_sheet(b"")[:2], (0x38, 0))
+
+    def test_the_manager_and_the_program_say_the_place(self):
+        sheet = BENCH_SHEET + self.changed(17, b"\x00\x00")
+        manager = Manager.new()
+        self.assertEqual((manager.read(sheet).answer, manager.read(sheet).place, manager.read(sheet).count), (0x34, 42, 0))
+        self.assertEqual(model.cantrace(sheet + b"\x16\x00\x00"), "config 52 42\n")
+        self.assertEqual(model.cantrace(BENCH_SHEET + self.changed(14, b"\x05")), "config 50 38\n")
+        manager.read(BENCH_SHEET)
+        manager.start()
+        self.assertEqual((manager.read(sheet).answer, manager.read(sheet).place), (0x0B, 0))
+
+
+real_place = model.refused_at
+
+
+def further_on(refusal, distance):
+    """A reader that points so many bytes behind the right place, or before it, for one refusal."""
+    return lambda number, data, place: real_place(number, data, place) + (distance if number == refusal else 0)
+
+
+def times_by(choose):
+    """A reader that points at that one of the three times which is chosen from the numbers, 0 to 2, of those that are 0."""
+    def place_of(number, data, place):
+        if number != model.Refusal.SHEET_OUT_OF_RANGE or data[place] != model.Tag.TIMES:
+            return real_place(number, data, place)
+        return place + 3 + choose([index for index in range(3) if not any(data[place + 3 + 2 * index:place + 5 + 2 * index])])
+    return place_of
+
+
+def first_byte_of_0(number, data, place):
+    """Of the three times, the first byte that is 0, though its number may not be."""
+    if number == model.Refusal.SHEET_OUT_OF_RANGE and data[place] == model.Tag.TIMES:
+        return data.index(0, place + 3)
+    return real_place(number, data, place)
+
+
+def differing_length_byte(number, data, place):
+    """Of the two length bytes, the low one where the high one is right."""
+    return real_place(number, data, place) + (number == model.Refusal.SHEET_WRONG_LENGTH and data[place + 1] == 0)
+
+
+def tag_of_a_length_that_overruns(number, data, place):
+    """A wrong length is pointed at by its tag where the value runs past the end too."""
+    overruns = number == model.Refusal.SHEET_WRONG_LENGTH and place + 3 + model.two_byte_number(data, place + 1) > len(data)
+    return place if overruns else real_place(number, data, place)
+
+
+def not_behind_field(tag):
+    """A reader that points at this tag itself where the field's value is out of its range."""
+    return lambda number, data, place: place if number == 0x34 and data[place] == tag else real_place(number, data, place)
+
+
+# What a reader does that points elsewhere: in place of the model's `refused_at`.
+WRONG_READERS = {
+    "34 at the tag": further_on(0x34, -3),
+    "34 at the length": further_on(0x34, -2),
+    "34 one byte on, at the low byte of a time": further_on(0x34, 1),
+    "34 always at the first of three times": times_by(lambda zeros: 0),
+    "34 at the last time that is 0": times_by(lambda zeros: 2 * zeros[-1]),
+    "34 at the last of three times": times_by(lambda zeros: 4),
+    "34 at the time by its number, not by its bytes": times_by(lambda zeros: zeros[0]),
+    "34 at the first byte that is 0": first_byte_of_0,
+    "34 of field 02 at the tag": not_behind_field(0x02),
+    "34 of field 03 at the tag": not_behind_field(0x03),
+    "34 of field 05 at the tag": not_behind_field(0x05),
+    "34 of field 06 at the tag": not_behind_field(0x06),
+    "34 of field 07 at the tag": not_behind_field(0x07),
+    "32 at the tag": further_on(0x32, -1),
+    "32 at the second length byte": further_on(0x32, 1),
+    "32 at the value": further_on(0x32, 2),
+    "32 at that length byte which is wrong": differing_length_byte,
+    "32 at the tag where the value overruns": tag_of_a_length_that_overruns,
+    "30 at the length too": further_on(0x30, 1),
+    "31 at the length too": further_on(0x31, 1),
+    "33 at the value too": further_on(0x33, 3),
+    "35 at the id": further_on(0x35, 3),
+    "36 at the id": further_on(0x36, 3),
+    "37 at the value too": further_on(0x37, 3),
+}
+
+
+class WrongReaders(unittest.TestCase):
+    """Readers that point elsewhere: the stored cases tell each from the right one, by what is written there by hand or stored."""
+
+    @classmethod
+    def setUpClass(cls):
+        cls.sheets = sheet_cases.parse_cases(sheet_cases.CASE_FILE.read_text(encoding="ascii"))
+        cls.calls = (manager_cases.FOLDER / "stdout").read_bytes()
+        cls.recordings = [case for case in trace_cases.all_cases() if case.last_line.startswith("config ")]
+
+    def told_by(self, reader):
+        """The kinds of stored cases by which this reader is told from the right one."""
+        with mock.patch.object(model, "refused_at", reader):
+            told = {
+                "sheets": any(sheet_cases.outcome_in_words(Manager.new().read(case.sheet)) != case.expectation for case in self.sheets),
+                "calls": manager_cases.expected_output() != self.calls,
+                "recordings": any(model.cantrace(case.data) != case.last_line + "\n" for case in self.recordings),
+            }
+        return {kind for kind, differs in told.items() if differs}
+
+    def test_each_is_told_by_all_three_kinds(self):
+        for name, reader in WRONG_READERS.items():
+            with self.subTest(name):
+                self.assertEqual(self.told_by(reader), {"sheets", "calls", "recordings"})
+
+    def test_the_right_one_is_not(self):
+        self.assertEqual(self.told_by(real_place), set())
 
 
 class CallsBeforeTheStart(unittest.TestCase):

@@ -11,6 +11,7 @@ import subprocess
 import sys
 import tempfile
 import unittest
+from collections import Counter
 from pathlib import Path
 from random import Random
 
@@ -551,24 +552,58 @@ CALL_REFUSALS = {
     Refusal.NOT_TAKEN: "refused: 0x22, an answer, bus-off or stall that the step does not take",
 }
 
-# A sheet for each of its refusals, the model's line for it, and what is said of it and of its place.
+# The refusals of a sheet, in words.
+CUT = "refused: 0x30, a field is cut, or the last network is unfinished"
+UNKNOWN_TAG = "refused: 0x31, unknown tag"
+WRONG_LENGTH = "refused: 0x32, the length is not that of the tag"
+WRONG_ORDER = "refused: 0x33, the tag is not allowed here by the order of fields"
+OUT_OF_RANGE = "refused: 0x34, the value is out of its range"
+USED_BEFORE = "refused: 0x35, the id is used before"
+TOO_MANY = "refused: 0x36, a ninth network or a fifth controller"
+NO_TRANSCEIVER = "refused: 0x37, partial networking without a transceiver"
+NO_NETWORK = "refused: 0x38, no network at all"
+# A second network with a transceiver; its fields begin at 0, 4, 8, 12, 21 and 25.
+FITTED = bytes.fromhex("010001c8 02000104 03000105 040006000200050003 05000101 06000100")
+THRESHOLD_255 = SHEET[:20] + b"\xff" + SHEET[21:]
+NO_LONG_DELAY = SHEET[:13] + bytes(2) + SHEET[15:]
+
+# Sheets for each of its refusals, the model's line, and what is said: the refusal, then what stands at that byte, and the bytes of its field.
 SHEET_REFUSALS = [
-    (SHEET[:24], "config 48 21", "refused: 0x30, a field is cut, or the last network is unfinished", "at byte 21: bytes 06 00 01"),
-    (SHEET[:21], "config 48 21", "refused: 0x30, a field is cut, or the last network is unfinished", "at byte 21: the sheet ends there"),
-    (SHEET + field(9, *range(9)), "config 49 25", "refused: 0x31, unknown tag", "at byte 25: bytes 09 00 09 00 01 02 03 04 ..."),
-    (field(1), "config 50 0", "refused: 0x32, the length is not that of the tag", "at byte 0: bytes 01 00 00"),
-    (SHEET[4:], "config 51 0", "refused: 0x33, the tag is not allowed here by the order of fields", "at byte 0: controller 3"),
-    (SHEET[:20] + b"\xff" + SHEET[21:], "config 52 17", "refused: 0x34, the value is out of its range", "at byte 17: threshold 255"),
-    (SHEET + field(Tag.RELATION, 0), "config 52 25", "refused: 0x34, the value is out of its range", "at byte 25: long-delay 0"),
-    (SHEET + field(Tag.RELATION, 1) * 2, "config 51 29", "refused: 0x33, the tag is not allowed here by the order of fields",
-     "at byte 29: long-delay at the threshold"),
-    (SHEET + field(Tag.RELATION), "config 50 25", "refused: 0x32, the length is not that of the tag", "at byte 25: bytes 07 00 00"),
-    (SHEET[:8] + SHEET[4:], "config 53 8", "refused: 0x35, the id is used before", "at byte 8: controller 3"),
-    (model.write_sheet(LARGEST) + field(Tag.HANDLE, 1), "config 54 328",
-     "refused: 0x36, a ninth network or a fifth controller", "at byte 328: handle 1"),
-    (SHEET[:24] + b"\x01", "config 55 21", "refused: 0x37, partial networking without a transceiver", "at byte 21: partial"),
-    (b"", "config 56 0", "refused: 0x38, no network at all", "at byte 0: there is no sheet"),
-    (TICK, "config 56 0", "refused: 0x38, no network at all", "at byte 0: there is no sheet"),
+    (SHEET[:24], "config 48 21", CUT, "field 06 is cut by the end of the sheet", "[06] 00 01"),
+    (SHEET[:6], "config 48 4", CUT, "field 02 is cut by the end of the sheet", "[02] 00"),
+    (SHEET + b"\x09", "config 48 25", CUT, "field 09 is cut by the end of the sheet", "[09]"),
+    (SHEET[:21], "config 48 21", CUT, "the sheet ends there"),
+    (SHEET[:4] + field(9, 1), "config 49 4", UNKNOWN_TAG, "there is no field 09", "[09] 00 01 01"),
+    (SHEET + field(9, *range(9)), "config 49 25", UNKNOWN_TAG, "there is no field 09", "[09] 00 09 00 01 02 03 04 05 ..."),
+    (SHEET + b"\x0f\xff\xff", "config 49 25", UNKNOWN_TAG, "there is no field 0f", "[0f] ff ff"),
+    (field(1), "config 50 1", WRONG_LENGTH, "the length of field 01 is 0, must be 1", "01 [00 00]"),
+    (SHEET[:8] + field(4, 0, 1, 0, 1, 0), "config 50 9", WRONG_LENGTH, "the length of field 04 is 5, must be 6", "04 [00 05] 00 01 00 01 00"),
+    (SHEET[:8] + b"\x04\x01\x06", "config 50 9", WRONG_LENGTH, "the length of field 04 is 262, must be 6", "04 [01 06]"),
+    (SHEET + b"\x07\xff\xff\x01", "config 50 26", WRONG_LENGTH, "the length of field 07 is 65,535, must be 1", "07 [ff ff] 01"),
+    (SHEET + FITTED[:8] + field(3, *range(8)), "config 50 34", WRONG_LENGTH, "the length of field 03 is 8, must be 1",
+     "03 [00 08] 00 01 02 03 04 05 ..."),
+    (SHEET[4:], "config 51 0", WRONG_ORDER, "field 02 may not stand first", "[02] 00 01 03"),
+    (SHEET[:8] + SHEET[17:], "config 51 8", WRONG_ORDER, "field 05 may not follow field 02", "[05] 00 01 01"),
+    (SHEET + field(7, 1) * 2, "config 51 29", WRONG_ORDER, "field 07 may not follow field 07", "[07] 00 01 01"),
+    (SHEET[:4] + field(2, 32), "config 52 7", OUT_OF_RANGE, "controller id of network 7 is 32, must be 0 to 31", "02 00 01 [20]"),
+    (SHEET + FITTED[:11] + b"\x08", "config 52 36", OUT_OF_RANGE, "transceiver id of network 200 is 8, must be 0 to 7", "03 00 01 [08]"),
+    (SHEET[:11] + bytes(2) + SHEET[13:], "config 52 11", OUT_OF_RANGE, "short delay of network 7 is 0, must be 1 to 65,535",
+     "04 00 06 [00 00] 00 05 00 03"),
+    (NO_LONG_DELAY, "config 52 13", OUT_OF_RANGE, "long delay of network 7 is 0, must be 1 to 65,535", "04 00 06 00 02 [00 00] 00 03"),
+    (SHEET[:15] + bytes(2) + SHEET[17:], "config 52 15", OUT_OF_RANGE, "ensure time of network 7 is 0, must be 1 to 65,535",
+     "04 00 06 00 02 00 05 [00 00]"),
+    (SHEET + FITTED[:17] + bytes(4) + FITTED[21:], "config 52 42", OUT_OF_RANGE, "long delay of network 200 is 0, must be 1 to 65,535",
+     "04 00 06 00 02 [00 00] 00 00"),
+    (THRESHOLD_255, "config 52 20", OUT_OF_RANGE, "threshold of network 7 is 255, must be 0 to 254", "05 00 01 [ff]"),
+    (SHEET[:24] + b"\x02", "config 52 24", OUT_OF_RANGE, "partial networking of network 7 is 2, must be 0 or 1", "06 00 01 [02]"),
+    (SHEET + field(7, 0), "config 52 28", OUT_OF_RANGE, "rule for the long delay of network 7 is 0, must be 1, or no field", "07 00 01 [00]"),
+    (SHEET[:8] + SHEET[4:], "config 53 8", USED_BEFORE, "controller id 3 is used before", "[02] 00 01 03"),
+    (SHEET + SHEET, "config 53 25", USED_BEFORE, "handle 7 is used before", "[01] 00 01 07"),
+    (model.write_sheet(LARGEST) + field(1, 1), "config 54 328", TOO_MANY, "handle 1 is one too many", "[01] 00 01 01"),
+    (SHEET[:4] + b"".join(field(2, number) for number in range(5)), "config 54 20", TOO_MANY, "controller id 4 is one too many", "[02] 00 01 04"),
+    (SHEET[:24] + b"\x01", "config 55 21", NO_TRANSCEIVER, "partial networking of network 7 is 1, and it has no transceiver", "[06] 00 01 01"),
+    (b"", "config 56 0", NO_NETWORK, "there is no sheet"),
+    (TICK, "config 56 0", NO_NETWORK, "there is no sheet"),
 ]
 
 # An event that the sheet above is followed by, and what it is called.
@@ -642,17 +677,27 @@ class ExplainTest(unittest.TestCase):
             self.assertEqual(explained(SHEET + TICK, f"config 0 1\n1 {number}\n")[1], [f"1 {number}", "tick", words])
 
     def test_each_refusal_of_a_sheet(self):
-        for data, line, words, place in SHEET_REFUSALS:
+        for data, line, words, there, *shown in SHEET_REFUSALS:
             with self.subTest(line):
                 self.assertEqual(model.cantrace(data), line + "\n")
-                found = explained(data, line + "\n")
-                self.assertEqual(found[0][2], words)
-                self.assertEqual(found[1], ["", place])
+                place = line.split()[2]
+                self.assertEqual([row[-1] for row in explained(data, line + "\n")], [words, f"byte {place} of the sheet: {there}", *shown])
+
+    def test_a_place_far_into_a_sheet(self):
+        """Many handles are no good sheet, but their fields are sound, so a refusal can stand at any of them."""
+        found = explained(field(1, 7) * 500 + TICK, "config 51 1600\n")
+        self.assertEqual([row[-1] for row in found[1:]], ["byte 1,600 of the sheet: field 01 may not follow field 01", "[01] 00 01 07"])
+
+    def test_a_field_without_a_network(self):
+        """The output is another program's: cantrace refuses the order."""
+        self.assertEqual(explained(field(2, 32), "config 52 3\n")[1][-1], "byte 3 of the sheet: controller id is 32, must be 0 to 31")
 
     def test_every_refusal_number_is_there(self):
         numbers = {number for name, number in vars(Refusal).items() if name.isupper()}
         self.assertEqual({*CALL_REFUSALS, *(int(line.split()[1]) for _, line, *_ in SHEET_REFUSALS)}, numbers)
-        self.assertEqual(len({words for _, _, words, _ in SHEET_REFUSALS}), 9)
+        self.assertEqual(len({words for _, _, words, *_ in SHEET_REFUSALS}), 9)
+        out_of_range = {shown[0][:2] for _, _, words, _, *shown in SHEET_REFUSALS if words == OUT_OF_RANGE}
+        self.assertEqual(out_of_range, {"02", "03", "04", "05", "06", "07"})
 
     def test_each_event(self):
         for line, words in EVENTS:
@@ -812,6 +857,30 @@ class ExplainTest(unittest.TestCase):
             output = model.cantrace(data)
             self.assertEqual([row[0] for row in explained(data, output) if row[0]], output.splitlines())
 
+    def test_random_sheets(self):
+        """What is marked stands at the place, in the bytes of the field; and a refusal for a field's own bytes can stand nowhere else."""
+        random = Random(SEED)
+        marked = Counter()
+        for _ in range(1500):
+            data = random.choice((random_traces.damaged_sheet(random), random_traces.noise(random), SHEET + random_fields(random)))
+            output = model.cantrace(data)
+            answer, place = map(int, output.split()[1:3])
+            if answer == model.ACCEPTED:
+                continue
+            first, where, *shown = [row[-1] for row in explained(data, output)]
+            self.assertIn(f"0x{answer:02x}", first)
+            self.assertTrue(where.startswith(f"byte {place} of the sheet: "))
+            if shown:
+                words = shown[0].replace(" ...", "").split()
+                before = [word.startswith("[") for word in words].index(True)
+                self.assertEqual(data[place - before:place - before + len(words)], bytes.fromhex(re.sub(r"[\[\]]", "", " ".join(words))))
+                marked[answer] += 1
+            if answer in (Refusal.SHEET_CUT, Refusal.SHEET_UNKNOWN_TAG, Refusal.SHEET_WRONG_LENGTH, Refusal.SHEET_OUT_OF_RANGE):
+                for other in {*range(max(0, place - 8), place + 8)} - {place}:
+                    with self.assertRaises(NotItsOutput):
+                        explained(data, f"config {answer} {other}\n")
+        self.assertEqual(set(marked), set(range(Refusal.SHEET_CUT, Refusal.SHEET_NO_NETWORK)))
+
 
 # An output that is not the recording's, and why.
 WHOLE_OUTPUT = model.cantrace(WHOLE_CASE)
@@ -849,12 +918,43 @@ MISMATCHES = [
     (WHOLE_CASE, WHOLE_OUTPUT.replace("18 0 2", "stop 112"), "line 19: event 18 is expected, not 'stop 112'"),
     (WHOLE_CASE, WHOLE_OUTPUT.replace("18 0 2", "18  0 2"), "line 19: event 18 is expected, not '18  0 2'"),
     (WHOLE_CASE, "config 0 " + "1" * 5000 + "\n", f"line 1: 'config' and two numbers are expected, not 'config 0 {'1' * 31}...'"),
-    (WHOLE_CASE, "config 52 17\n1 0\n", "its number of lines is 2, not 1"),
-    (WHOLE_CASE, "config 52 18\n", "line 1: no field of the sheet begins at byte 18"),
+    (THRESHOLD_255 + TICK, "config 52 20\n1 0\n", "its number of lines is 2, not 1"),
+    (WHOLE_CASE, "config 52 18\n", "line 1: a sheet of 25 bytes is not refused by 52, the value is out of its range"),
     (WHOLE_CASE, "config 34 17\n", "line 1: 34 is no refusal that can stand here"),
     (WHOLE_CASE, "config 56 0\n", "line 1: a sheet of 25 bytes is not refused by 56, no network at all"),
     (TICK, "config 48 0\n", "line 1: a sheet of 0 bytes is not refused by 48, a field is cut, or the last network is unfinished"),
-    (TICK, "config 56 3\n", "line 1: no field of the sheet begins at byte 3"),
+    (TICK, "config 56 3\n", "line 1: this sheet can be refused by 56, no network at all, at byte 0, and not at byte 3"),
+    # S29: 34 at the tag, as older programs have it; at the low byte; at a later number that is 0.
+    (THRESHOLD_255, "config 52 17\n", "line 1: this sheet can be refused by 52, the value is out of its range, at byte 20, and not at byte 17"),
+    (NO_LONG_DELAY, "config 52 8\n", "line 1: this sheet can be refused by 52, the value is out of its range, at byte 13, and not at byte 8"),
+    (NO_LONG_DELAY, "config 52 14\n", "line 1: this sheet can be refused by 52, the value is out of its range, at byte 13, and not at byte 14"),
+    (SHEET[:13] + bytes(4), "config 52 15\n",
+     "line 1: this sheet can be refused by 52, the value is out of its range, at byte 13, and not at byte 15"),
+    (THRESHOLD_255 + field(2, 32), "config 52 28\n",
+     "line 1: this sheet can be refused by 52, the value is out of its range, at byte 20, and not at byte 28"),
+    # S28: 32 at the tag and at the low byte of the length.
+    (SHEET + field(7), "config 50 25\n",
+     "line 1: this sheet can be refused by 50, the length is not that of the tag, at byte 26, and not at byte 25"),
+    (SHEET + field(7), "config 50 27\n",
+     "line 1: this sheet can be refused by 50, the length is not that of the tag, at byte 26, and not at byte 27"),
+    (SHEET, "config 50 1\n", "line 1: a sheet of 25 bytes is not refused by 50, the length is not that of the tag"),
+    # Behind a field that is refused in any case nothing is refused.
+    (SHEET[:8] + field(4) + field(5, 255), "config 52 14\n", "line 1: a sheet of 15 bytes is not refused by 52, the value is out of its range"),
+    # S24, S26: the others at a tag, and 30 at the end.
+    (SHEET[:24], "config 48 24\n",
+     "line 1: this sheet can be refused by 48, a field is cut, or the last network is unfinished, at byte 21, and not at byte 24"),
+    (SHEET[:21], "config 48 17\n",
+     "line 1: this sheet can be refused by 48, a field is cut, or the last network is unfinished, at byte 21, and not at byte 17"),
+    (SHEET, "config 48 25\n", "line 1: a sheet of 25 bytes is not refused by 48, a field is cut, or the last network is unfinished"),
+    (SHEET[:8] + field(4), "config 48 11\n", "line 1: a sheet of 11 bytes is not refused by 48, a field is cut, or the last network is unfinished"),
+    (SHEET + field(9, 1), "config 49 26\n", "line 1: this sheet can be refused by 49, unknown tag, at byte 25, and not at byte 26"),
+    (SHEET[4:], "config 51 3\n",
+     "line 1: this sheet can be refused by 51, the tag is not allowed here by the order of fields, at byte 0 or 4 or 13 or later, and not at byte 3"),
+    (SHEET[:8] + SHEET[4:], "config 53 12\n",
+     "line 1: this sheet can be refused by 53, the id is used before, at byte 0 or 4 or 8, and not at byte 12"),
+    (SHEET, "config 54 8\n", "line 1: this sheet can be refused by 54, a ninth network or a fifth controller, at byte 0 or 4, and not at byte 8"),
+    (SHEET[:24] + b"\x01", "config 55 24\n",
+     "line 1: this sheet can be refused by 55, partial networking without a transceiver, at byte 21, and not at byte 24"),
     (SHEET + b"\x16", "config 0 1\n", "its number of lines is 1, not 2"),
     (SHEET + b"\x16", "config 0 1\nstop 24\n", "line 2: 'stop 25' is expected, not 'stop 24'"),
     (SHEET + b"\x16", "config 0 1\n1 0\n", "line 2: 'stop 25' is expected, not '1 0'"),
@@ -1042,6 +1142,11 @@ class ExamplesTest(unittest.TestCase):
         parted = {26: (nothing, full), 27: ("0 1", "0 2"), 30: ("0 1", "0 2"), 31: (full, passed), 35: (passed, nothing)}
         found = {number: lines for number, lines in enumerate(zip(at, above)) if lines[0] != lines[1]}
         self.assertEqual(found, {number: tuple(f"{number} {line}" for line in lines) for number, lines in parted.items()})
+
+    def test_refused_sheets(self):
+        """S29: the bytes that their comments speak of, written by hand."""
+        for name, line in (("refused-sheet", "config 52 20\n"), ("refused-delay", "config 52 13\n")):
+            self.assertEqual((examples.EXAMPLES / f"{name}.txt").read_text(encoding="ascii"), line)
 
     def test_each_example_can_be_read_back(self):
         scripts = sorted(examples.EXAMPLES.glob("*.script"))

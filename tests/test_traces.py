@@ -16,12 +16,13 @@ from unittest import mock
 
 import batches
 import coverage
+import damaged_cases
 import model
 import played_cases
 import random_traces
 import run_program
 import trace_cases
-from coverage import CONFIG, Delay, Ending, Reached, Situation, Transition, watched_cantrace
+from coverage import CONFIG, Delay, Ending, Place, Reached, Situation, Transition, watched_cantrace
 from model import EventTag, Mode, Outfit, Relation, Tag
 from traces import LARGEST, LARGEST_BY_THE_NEWER_RULE, NOT_OK, OF_OUTFIT, SHEET, TICK, WHOLE_CASE, Case, Trace, answer_to, arrange
 from traces import by_the_newer_rule, field, network
@@ -81,6 +82,17 @@ class PossibleTest(unittest.TestCase):
         self.assertEqual(set(model.LENGTH_OF_TAG), set(coverage.REFUSALS_OF_TAG))
         of_field_07 = {answer for tag, answer in coverage.possible()["fields"] if tag == Tag.RELATION}
         self.assertEqual({0x30, 0x32, 0x33, 0x34}, of_field_07)
+
+    def test_where_a_refusal_can_point(self):
+        """32 behind each of seven tags, 34 at each of five numbers of one byte, and at one of three times by those of them that are 0."""
+        places = coverage.possible()["places"]
+        for later in (False, True):
+            lengths = {(place.tag, place.distance) for place in places if place.answer == 0x32 and place.later == later}
+            self.assertEqual({(tag, 1) for tag in range(1, 8)}, lengths)
+            values = {(place.tag, place.distance, place.zeros) for place in places if place.answer == 0x34 and place.later == later}
+            times = {(4, 3, (1,)), (4, 5, (2,)), (4, 7, (3,)), (4, 3, (1, 2)), (4, 3, (1, 3)), (4, 5, (2, 3)), (4, 3, (1, 2, 3))}
+            self.assertEqual(times | {(tag, 3, ()) for tag in (2, 3, 5, 6, 7)}, values)
+        self.assertEqual(38, len(places))
 
     def test_the_two_rules_part_at_the_threshold_alone(self):
         names = {rule: {delay.count: delay.name for delay in coverage.possible()["delays"] if delay.rule == rule} for rule in ("older", "newer")}
@@ -175,8 +187,40 @@ class ReachedTest(unittest.TestCase):
             (SHEET + newer + SHEET, {(Tag.HANDLE, 0x35)}),
             (SHEET + field(8, 1), set()),
             (SHEET[:21] + TICK, set()),
+            (SHEET[:21], set()),
         ):
             self.assertEqual(expected, reached_by(data)["fields"])
+
+    def test_where_refusals_point(self):
+        zeros = SHEET[:13] + bytes(4) + SHEET[17:]
+        for data, expected in (
+            (SHEET + TICK, set()),
+            (zeros + TICK, {Place(4, 0x34, 5, (2, 3), False)}),
+            (model.write_sheet(LARGEST[1:2]) + zeros, {Place(4, 0x34, 5, (2, 3), True)}),
+            (SHEET[:11] + b"\x01" + bytes(3) + SHEET[15:], {Place(4, 0x34, 5, (2,), False)}),
+            (SHEET[:20] + b"\xff" + TICK, {Place(5, 0x34, 3, (), False)}),
+            (SHEET + field(Tag.RELATION, 0) + TICK, {Place(7, 0x34, 3, (), False)}),
+            (field(Tag.HANDLE), {Place(1, 0x32, 1, (), False)}),
+            (SHEET + field(Tag.HANDLE) + TICK, {Place(1, 0x32, 1, (), True)}),
+            (SHEET + b"\x01\xff\xff", {Place(1, 0x32, 1, (), True)}),
+            (SHEET[:8] + field(Tag.TIMES) + TICK, {Place(4, 0x32, 1, (), False)}),
+            (SHEET + SHEET, set()),
+            (SHEET[:24], set()),
+            (SHEET + field(8, 1), set()),
+            (TICK, set()),
+        ):
+            self.assertEqual(expected, reached_by(data)["places"])
+
+    def test_a_reader_that_points_elsewhere_is_noticed(self):
+        zeros = SHEET[:13] + bytes(4) + SHEET[17:]
+        reached = Reached()
+        with mock.patch.object(model, "refused_at", lambda refusal, data, place: place + 7):
+            watched_cantrace(zeros, reached)
+        self.assertEqual(["places: 34 points 7 behind tag 04, times 2, 3 zero, first network"], coverage.surprises(reached))
+        reached = Reached()
+        with mock.patch.object(model, "refused_at", lambda refusal, data, place: place):
+            watched_cantrace(zeros, reached)
+        self.assertEqual(set(), set(reached.times["places"]))
 
     def test_endings(self):
         for data, ending in (
@@ -360,6 +404,16 @@ class StoredCasesTest(unittest.TestCase):
             "trace_cases: not reached: delays: newer rule, below the threshold, the short delay",
         ], trace_cases.coverage_faults(reached))
 
+    def test_cases_of_places_that_are_left_out_are_noticed(self):
+        reached = Reached()
+        left_out = {case.name for case in damaged_cases.pointed_at_cases()}
+        for case in self.cases:
+            if case.name not in left_out:
+                watched_cantrace(case.data, reached)
+        faults = trace_cases.coverage_faults(reached)
+        self.assertIn("trace_cases: not reached: places: 34 points 5 behind tag 04, times 2, 3 zero, later network", faults)
+        self.assertIn("trace_cases: not reached: places: 32 points 1 behind tag 03, later network", faults)
+
     def test_two_networks_with_the_same_events_part_at_the_threshold(self):
         """Polls of both after each of eight ticks, twice. The older rule has full from the fourth tick on, the newer from the seventh; after the
         second bus-off too, before which only the first network has passed and counts from 0."""
@@ -481,6 +535,12 @@ class RandomInputsTest(unittest.TestCase):
         self.assertEqual(set(coverage.POSSIBLE_ANSWERS[CONFIG]), refusals | {0x38})
         self.assertLessEqual({0x32, 0x33, 0x34}, {answer for tag, answer in reached.times["fields"] if tag == Tag.RELATION})
         self.assertEqual(set(Ending.ALL) - {Ending.TOO_LONG}, set(reached.times["endings"]))
+
+    def test_damaged_sheets_are_pointed_at_everywhere(self):
+        reached = Reached()
+        for seed in range(2000):
+            watched_cantrace(random_traces.damaged_sheet(Random(seed)), reached)
+        self.assertEqual(coverage.possible()["places"], set(reached.times["places"]))
 
     def test_a_seed_gives_the_same_inputs(self):
         first, second = Random(5), Random(5)
@@ -635,10 +695,10 @@ class DifferentialTest(unittest.TestCase):
         self.assertIn("3 inputs agree through trace_cases, 0 through ./cantrace, 3 differ", printed)
 
     def test_an_early_end_is_found_and_the_rest_is_compared(self):
-        self.fakes("len(output.splitlines()) == {} and os._exit(3)".format(self.number_of_lines(4)))
+        self.fakes("len(output.splitlines()) == {} and os._exit(3)".format(self.number_of_lines(5)))
         status, printed = self.run_differential("8", "3")
         self.assertEqual(1, status)
-        self.assertIn("trace_cases, input 4 ", printed)
+        self.assertIn("trace_cases, input 5 ", printed)
         self.assertIn("the program ended with status 3", printed)
         self.assertIn("7 inputs agree through trace_cases, 8 through ./cantrace, 1 differ", printed)
 

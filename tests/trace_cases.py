@@ -39,6 +39,7 @@ GROUPS: List[Callable[[], Iterator[Case]]] = [
     played_cases.two_chip_cases,
     damaged_cases.field_07_cases,
     played_cases.threshold_cases,
+    damaged_cases.pointed_at_cases,
 ]
 
 

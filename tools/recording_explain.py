@@ -5,12 +5,14 @@ from typing import List, NamedTuple, Set
 from recording_fields import FIRST_EVENT_TAG, LONGEST_RECORDING, Fault, Field, Tag
 from recording_output import ACCEPTED, EVENTS_WITH_RECORDS, TOO_LONG, ConfigLine, EventLine, Output, Recording, ids_in, read_output
 from recording_script import field_line
-from recording_words import ADVICE, AT_THE_THRESHOLD, CALL_REFUSALS, MODE_WORDS, NO_COMMUNICATION, OF_A_RESET, SAME_FAULT, SHEET_REFUSALS
-from recording_words import STALL_OUTLOOK, TX_OFFLINE, Kind, Record, event_words, record_words
+from recording_sheet import facts_at, marked_bytes, pointers
+from recording_words import ADVICE, AT_THE_THRESHOLD, CALL_REFUSALS, MODE_WORDS, NO_COMMUNICATION, NO_SHEET, OF_A_RESET, SAME_FAULT, SHEET_ENDS
+from recording_words import SHEET_FAULTS, SHEET_REFUSALS, STALL_OUTLOOK, TX_OFFLINE, Kind, Record, event_words, record_words
 
 WIDEST_LINE = 28
 GAP = "  "
-MOST_BYTES_SHOWN = 8
+# As many as the longest field of a sheet has.
+MOST_BYTES_SHOWN = 9
 STOP_WORDS = {
     Fault.CUT: "the field is cut",
     Fault.UNKNOWN_TAG: "the tag is unknown",
@@ -44,14 +46,13 @@ def refusal_words(number: int, why: str) -> str:
     return f"refused: 0x{number:02x}, {why}"
 
 
-def place_words(recording: Recording, config: ConfigLine) -> str:
-    """Where a sheet is refused, and what stands there."""
-    place = config.number
-    if not recording.sheet:
-        return f"at byte {place}: there is no sheet"
-    if place == recording.sheet_bytes:
-        return f"at byte {place}: the sheet ends there"
-    return next(f"at byte {place}: {shown(field)}" for field in recording.sheet if field.place == place)
+def place_meanings(recording: Recording, config: ConfigLine) -> List[str]:
+    """At which byte a sheet is refused and what stands there; and the bytes of that field."""
+    where = f"byte {config.number:,} of the sheet: "
+    for pointer in pointers(recording.sheet, config.answer):
+        if pointer.place == config.number:
+            return [where + SHEET_FAULTS[config.answer].format(**facts_at(recording.sheet, pointer)), marked_bytes(pointer, MOST_BYTES_SHOWN)]
+    return [where + (SHEET_ENDS if recording.sheet else NO_SHEET)]
 
 
 def threshold_meanings(recording: Recording) -> List[str]:
@@ -63,7 +64,7 @@ def threshold_meanings(recording: Recording) -> List[str]:
 def config_meanings(recording: Recording, config: ConfigLine) -> List[str]:
     """What the first line says."""
     if config.answer != ACCEPTED:
-        return [refusal_words(config.answer, SHEET_REFUSALS[config.answer]), place_words(recording, config)]
+        return [refusal_words(config.answer, SHEET_REFUSALS[config.answer]), *place_meanings(recording, config)]
     return [f"accepted: {config.number} network" + ("" if config.number == 1 else "s"), *threshold_meanings(recording)]
 
 

@@ -51,6 +51,24 @@ VALUE_BYTES = {
 }
 
 
+# The tags of a sheet.
+SHEET_TAGS = tuple(tag for tag in VALUE_BYTES if tag < FIRST_EVENT_TAG)
+
+
+class SheetRefusal:
+    """The refusals of a sheet."""
+
+    CUT = 0x30
+    UNKNOWN_TAG = 0x31
+    WRONG_LENGTH = 0x32
+    WRONG_ORDER = 0x33
+    OUT_OF_RANGE = 0x34
+    USED_BEFORE = 0x35
+    TOO_MANY = 0x36
+    NO_TRANSCEIVER = 0x37
+    NO_NETWORK = 0x38
+
+
 class Mode:
     """The modes of a network."""
 
@@ -79,6 +97,11 @@ class Field(NamedTuple):
     def tag(self) -> int:
         """The first byte."""
         return self.data[0]
+
+    @property
+    def length(self) -> int:
+        """The length as it is written, whatever follows."""
+        return int.from_bytes(self.data[1:HEADER_BYTES], "big")
 
     @property
     def value(self) -> bytes:

@@ -1,16 +1,17 @@
 """A recording as `cantrace` takes it, and the output that `cantrace` wrote for it, line by line.
 
-Nothing is run again: what the recording alone decides (the number of lines, the numbers of the events, the place of a stop, the ids of
-the sheet) is compared, and an output that cannot be the recording's is refused.
+Nothing is run again: what the recording alone decides (the number of lines, the numbers of the events, the places of a stop and of a
+refusal, the ids of the sheet) is compared, and an output that cannot be the recording's is refused.
 """
 
 import re
 from contextlib import contextmanager
 from typing import Dict, Iterator, List, NamedTuple, Optional
 
-from recording_fields import LONGEST_RECORDING, Fault, Field, Tag, fields_of
+from recording_fields import LONGEST_RECORDING, Fault, Field, SheetRefusal, Tag, fields_of
 from recording_script import is_script, network_end, quoted
-from recording_words import CALL_REFUSALS, MODE_WORDS, NO_NETWORK, RECORD_WORDS, SHEET_REFUSALS, Kind, Record, event_words
+from recording_sheet import is_sound, pointers
+from recording_words import CALL_REFUSALS, MODE_WORDS, RECORD_WORDS, SHEET_REFUSALS, Kind, Record, event_words
 
 NUMBER = "(0|[1-9][0-9]{0,8})"
 CONFIG_LINE = re.compile(f"config {NUMBER} {NUMBER}")
@@ -19,6 +20,7 @@ EVENT_LINE = re.compile(f"{NUMBER} {NUMBER}((?: [0-9:]+)*)")
 RECORD = re.compile(f"{NUMBER}:{NUMBER}:{NUMBER}")
 TOO_LONG = "too long"
 ACCEPTED = 0
+MOST_PLACES_NAMED = 3
 
 # The field of the sheet that has the target of a record, by its kind.
 TARGET_TAG = {
@@ -73,6 +75,10 @@ class Recording:
         self.events = later[:bad]
         self.stop = later[bad:bad + 1]
 
+    def is_whole(self) -> bool:
+        """Whether all of the sheet is whole networks."""
+        return sum(map(len, self.networks)) == len(self.sheet)
+
 
 # ---------------------------------------------------------------------------
 # One line
@@ -104,12 +110,24 @@ def check_refusal(number: int, known: Dict[int, str]) -> None:
         raise NotItsOutput(f"{number} is no refusal that can stand here")
 
 
+def places_of(recording: Recording, refusal: int) -> List[int]:
+    """Where a refusal can point in a sheet."""
+    # S25: it has no network just where it is empty
+    if not recording.sheet:
+        return [0] if refusal == SheetRefusal.NO_NETWORK else []
+    # S26: it can be refused at its end where all its fields are sound
+    at_end = refusal == SheetRefusal.CUT and not recording.is_whole() and all(map(is_sound, recording.sheet))
+    return [recording.sheet_bytes] if at_end else [pointer.place for pointer in pointers(recording.sheet, refusal)]
+
+
 def check_place(recording: Recording, refusal: int, place: int) -> None:
-    """A sheet is refused at one of its fields or at its end, and for having no network just where it is empty."""
-    if (refusal == NO_NETWORK) != (not recording.sheet):
-        raise NotItsOutput(f"a sheet of {recording.sheet_bytes} bytes is not refused by {refusal}, {SHEET_REFUSALS[refusal]}")
-    if place not in (recording.sheet_bytes, *(field.place for field in recording.sheet)):
-        raise NotItsOutput(f"no field of the sheet begins at byte {place}")
+    """A refusal of the sheet has to point at what it can be given for."""
+    places, words = places_of(recording, refusal), f"{refusal}, {SHEET_REFUSALS[refusal]}"
+    if not places:
+        raise NotItsOutput(f"a sheet of {recording.sheet_bytes} bytes is not refused by {words}")
+    if place not in places:
+        named = " or ".join(map(str, places[:MOST_PLACES_NAMED])) + (" or later" if len(places) > MOST_PLACES_NAMED else "")
+        raise NotItsOutput(f"this sheet can be refused by {words}, at byte {named}, and not at byte {place}")
 
 
 def read_config(recording: Recording, line: str) -> ConfigLine:
@@ -123,7 +141,7 @@ def read_config(recording: Recording, line: str) -> ConfigLine:
         check_place(recording, answer, number)
     elif number != len(recording.networks):
         raise NotItsOutput(f"the number of networks is {number}, and in the sheet it is {len(recording.networks)}")
-    elif sum(map(len, recording.networks)) < len(recording.sheet):
+    elif not recording.is_whole():
         raise NotItsOutput(f"the sheet is accepted, and not all of it is whole networks")
     return ConfigLine(line, answer, number)
 

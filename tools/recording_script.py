@@ -34,7 +34,7 @@ class Part(NamedTuple):
 
     Without words it is a plain number. With them it is one of the words, each of which may be several in a row, or one of
     `before_number` and then a number; where there is none of these, the number alone. Where the line may end before it, or go
-    on with the name of another form, `otherwise` is its value then.
+    on with the name of another form, `otherwise` is its value then. Of a sheet `allowed` are the numbers that cantrace does not refuse.
     """
 
     name: str
@@ -42,21 +42,25 @@ class Part(NamedTuple):
     words: Dict[str, int] = {}
     before_number: Tuple[str, ...] = ()
     otherwise: Optional[int] = None
+    allowed: range = range(0)
 
     def highest(self) -> int:
         """The highest number that its bytes can hold."""
         return 256 ** self.size - 1
 
 
-HANDLE = Part("handle")
-CONTROLLER = Part("controller id")
-TRANSCEIVER = Part("transceiver id")
+# S4 to S9, S27: the parts of a sheet, with the ranges of their numbers.
+HANDLE = Part("handle", allowed=range(256))
+CONTROLLER = Part("controller id", allowed=range(32))
+TRANSCEIVER = Part("transceiver id", allowed=range(8))
+SHORT_DELAY, LONG_DELAY, ENSURE_TIME = (Part(name, 2, allowed=range(1, 65536)) for name in ("short delay", "long delay", "ensure time"))
+THRESHOLD = Part("threshold", allowed=range(255))
+PARTIAL = Part("partial networking", otherwise=1, allowed=range(2))
+RELATION = Part("rule for the long delay", words={"at the threshold": 1}, allowed=range(1, 2))
 MODE = Part("mode", words={"no": Mode.NO, "silent": Mode.SILENT, "full": Mode.FULL}, before_number=("mode",))
 CONTROLLER_MODE = Part("controller mode", words={"stopped": 0, "started": 1, "sleep": 2}, before_number=("mode",))
 TRANSCEIVER_MODE = Part("transceiver mode", words={"normal": 0, "standby": 1}, before_number=("mode",))
 RESULT = Part("result", words={"ok": 1, "refused": 0}, before_number=("value", "ok"))
-# S27: how the bus-offs that count are held against the threshold.
-RELATION = Part("rule for the long delay", words={"at the threshold": 1})
 
 
 class Form(NamedTuple):
@@ -70,9 +74,9 @@ FORMS = {
     "handle": Form(Tag.HANDLE, [HANDLE]),
     "controller": Form(Tag.CONTROLLER, [CONTROLLER]),
     "transceiver": Form(Tag.TRANSCEIVER, [TRANSCEIVER]),
-    "delays": Form(Tag.DELAYS, [Part("short delay", 2), Part("long delay", 2), Part("ensure time", 2)]),
-    "threshold": Form(Tag.THRESHOLD, [Part("threshold")]),
-    "partial": Form(Tag.PARTIAL, [Part("partial networking", otherwise=1)]),
+    "delays": Form(Tag.DELAYS, [SHORT_DELAY, LONG_DELAY, ENSURE_TIME]),
+    "threshold": Form(Tag.THRESHOLD, [THRESHOLD]),
+    "partial": Form(Tag.PARTIAL, [PARTIAL]),
     "long-delay": Form(Tag.RELATION, [RELATION]),
     "want": Form(Tag.REQUEST, [HANDLE, MODE]),
     "bus-off": Form(Tag.BUS_OFF, [CONTROLLER]),
@@ -293,10 +297,15 @@ def part_words(part: Part, number: int) -> List[str]:
     return [*part.before_number[:1], str(number)]
 
 
+def parts_in(field: Field) -> Sequence[Part]:
+    """The parts of the form of a good field."""
+    return FORMS[NAME_OF_TAG[field.tag]].parts
+
+
 def numbers_of(field: Field) -> List[int]:
     """The numbers of a good field, one for each part of its form."""
     numbers, place = [], 0
-    for part in FORMS[NAME_OF_TAG[field.tag]].parts:
+    for part in parts_in(field):
         numbers.append(int.from_bytes(field.value[place:place + part.size], "big"))
         place += part.size
     return numbers
@@ -304,7 +313,7 @@ def numbers_of(field: Field) -> List[int]:
 
 def parts_of(field: Field) -> List[List[str]]:
     """The words of a good field, part by part."""
-    return [part_words(part, number) for part, number in zip(FORMS[NAME_OF_TAG[field.tag]].parts, numbers_of(field))]
+    return [part_words(part, number) for part, number in zip(parts_in(field), numbers_of(field))]
 
 
 def field_line(field: Field) -> str:

@@ -6,7 +6,7 @@ little room, and its columns are headed by the network and its controllers.
 
 from typing import NamedTuple
 
-from recording_fields import Field, Mode, Tag
+from recording_fields import Field, Mode, SheetRefusal, Tag
 from recording_script import parts_of
 
 
@@ -40,7 +40,6 @@ class RecordWords(NamedTuple):
 
 TX_OFFLINE = 1
 NO_COMMUNICATION = 0
-NO_NETWORK = 0x38
 
 CALL_REFUSALS = {
     0x01: "there is no started manager, or no sheet",
@@ -79,16 +78,30 @@ SAME_FAULT = "taken for the same fault, which is counted already"
 # T29, T30: behind a request that belongs to the reset.
 OF_A_RESET = ", for the reset"
 SHEET_REFUSALS = {
-    0x30: "a field is cut, or the last network is unfinished",
-    0x31: "unknown tag",
-    0x32: "the length is not that of the tag",
-    0x33: "the tag is not allowed here by the order of fields",
-    0x34: "the value is out of its range",
-    0x35: "the id is used before",
-    0x36: "a ninth network or a fifth controller",
-    0x37: "partial networking without a transceiver",
-    NO_NETWORK: "no network at all",
+    SheetRefusal.CUT: "a field is cut, or the last network is unfinished",
+    SheetRefusal.UNKNOWN_TAG: "unknown tag",
+    SheetRefusal.WRONG_LENGTH: "the length is not that of the tag",
+    SheetRefusal.WRONG_ORDER: "the tag is not allowed here by the order of fields",
+    SheetRefusal.OUT_OF_RANGE: "the value is out of its range",
+    SheetRefusal.USED_BEFORE: "the id is used before",
+    SheetRefusal.TOO_MANY: "a ninth network or a fifth controller",
+    SheetRefusal.NO_TRANSCEIVER: "partial networking without a transceiver",
+    SheetRefusal.NO_NETWORK: "no network at all",
 }
+# What a refusal points at, by the field that stands there.
+SHEET_FAULTS = {
+    SheetRefusal.CUT: "field {tag} is cut by the end of the sheet",
+    SheetRefusal.UNKNOWN_TAG: "there is no field {tag}",
+    SheetRefusal.WRONG_LENGTH: "the length of field {tag} is {length:,}, must be {right}",
+    SheetRefusal.WRONG_ORDER: "field {tag} may not {stand}",
+    SheetRefusal.OUT_OF_RANGE: "{name}{of_network} is {number}, must be {allowed}",
+    SheetRefusal.USED_BEFORE: "{name} {number} is used before",
+    SheetRefusal.TOO_MANY: "{name} {number} is one too many",
+    SheetRefusal.NO_TRANSCEIVER: "{name}{of_network} is {number}, and it has no transceiver",
+}
+# The same where no field stands: there is none, or the last one is over.
+NO_SHEET = "there is no sheet"
+SHEET_ENDS = "the sheet ends there"
 
 # By kind and argument: all records that there are.
 RECORD_WORDS = {

@@ -125,12 +125,12 @@ benchCases =
     ∷ case [] (read (take 24 benchSheet) ∷ []) (refusedAtPlace 0x30 21 ∷ [])
     -- E4: 21 bytes of it
     ∷ case [] (read (take 21 benchSheet) ∷ []) (refusedAtPlace 0x30 21 ∷ [])
-    -- E5: a short delay of 0
-    ∷ case [] (read (set benchSheet 12 0) ∷ []) (refusedAtPlace 0x34 8 ∷ [])
+    -- E5: a short delay of 0, a long one of 0
+    ∷ case [] (read (set benchSheet 12 0) ∷ read (set benchSheet 14 0) ∷ []) (refusedAtPlace 0x34 11 ∷ refusedAtPlace 0x34 13 ∷ [])
     -- E6: the field of the controller a second time
     ∷ case [] (read (take 8 benchSheet ++ drop 4 benchSheet) ∷ []) (refusedAtPlace 0x35 8 ∷ [])
     -- E7: the thresholds 254 and 255
-    ∷ case [] (read (set benchSheet 20 254) ∷ read (set benchSheet 20 255) ∷ []) (sheetTaken 25 ∷ refusedAtPlace 0x34 17 ∷ [])
+    ∷ case [] (read (set benchSheet 20 254) ∷ read (set benchSheet 20 255) ∷ []) (sheetTaken 25 ∷ refusedAtPlace 0x34 20 ∷ [])
     -- E8: partial networking without a transceiver
     ∷ case [] (read (set benchSheet 24 1) ∷ []) (refusedAtPlace 0x37 21 ∷ [])
     -- E9: one bus-off, with the short delay
@@ -148,7 +148,7 @@ benchCases =
     -- E18: field 07 once, a second time, with the value 0, before field 06, and at the front
     ∷ case [] (read newerSheet ∷ []) (sheetTaken 29 ∷ [])
     ∷ case [] (read (newerSheet ++ drop 25 newerSheet) ∷ []) (refusedAtPlace 0x33 29 ∷ [])
-    ∷ case [] (read (set newerSheet 28 0) ∷ []) (refusedAtPlace 0x34 25 ∷ [])
+    ∷ case [] (read (set newerSheet 28 0) ∷ []) (refusedAtPlace 0x34 28 ∷ [])
     ∷ case [] (read (take 21 benchSheet ++ drop 25 newerSheet) ∷ []) (refusedAtPlace 0x33 21 ∷ [])
     ∷ case [] (read (drop 25 newerSheet) ∷ []) (refusedAtPlace 0x33 0 ∷ [])
     -- E19: one bus-off, which is as many as the threshold, with the long delay

@@ -1,11 +1,15 @@
 -- Laws of entries: the value of a field at its place, and what its layout says.
-use Rattle.lists.proofs.Basics.{ℕ, _+_, _≤_, _<_, arith, eqb-true, eqb-false, ltb-false, _≡_, refl, _∙_, List, eqb, ltb}
-use Rattle.lists.proofs.Basics.{length, getD, take, drop, length-drop, getD-take, getD-drop, length-take-le}
+use Rattle.lists.proofs.Basics.{ℕ, _+_, _≤_, _<_, arith, eqb-true, eqb-false, ltb-true, ltb-false, _≡_, refl, ap, _∙_, List, [], _∷_, true, cond, eqb, ltb}
+use Rattle.lists.proofs.Basics.{length, getD, take, drop, length-drop, length-take, length-append, getD-take, getD-drop, length-take-le}
 use Rattle.lists.proofs.Tests.{split}
+use Rattle.lists.proofs.Any.{ending}
+use Rattle.settings.specs.declared.Settings.{Settings}
+use Rattle.settings.specs.Settings.{networksOf}
 use Rattle.entries.specs.declared.Entry.{Entry}
 use Rattle.entries.specs.declared.Layout.{Layout}
 use Rattle.entries.specs.declared.Layout.the-variants.{Unknown, Wrong, Byte}
 use Rattle.entries.specs.Entries.{layoutOf, wide, timesEntry, wholeEntry, fieldEntry}
+use Rattle.entries.specs.Grammar.{takesRelation}
 
 -- ---- the value of a field, at its place
 -- the byte at i of a value that begins at a place
@@ -13,7 +17,7 @@ pub value-byte : (s : List ℕ) (at n i : ℕ) → i < n → getD (take n (drop 
 value-byte s at n i h = getD-take n (drop at s) i 0 h ∙ getD-drop at s i 0
 
 -- the number at i of a value of 6 bytes that begins at a place
-value-wide : (s : List ℕ) (at i : ℕ) → i + 1 < 6 → wide (take 6 (drop at s)) i ≡ wide s (at + i)
+pub value-wide : (s : List ℕ) (at i : ℕ) → i + 1 < 6 → wide (take 6 (drop at s)) i ≡ wide s (at + i)
 value-wide s at i h =
     let e : at + (i + 1) ≡ at + i + 1 = omega arith in
     rw (value-byte s at 6 i (omega arith), value-byte s at 6 (i + 1) h, e) refl
@@ -27,10 +31,10 @@ times-at s at x y z p q r =
     rw (value-wide s at 0 (omega arith), value-wide s at 2 (omega arith), value-wide s at 4 (omega arith), first, p, q, r, last) refl
 
 -- ---- layoutOf
--- a layout that is right says the length, and which tag it can be
+-- a layout says which tag it can be, and whether the length is the tag's
 abbrev pub Says : ℕ → ℕ → Layout → Type 0
-Says tag n Unknown = Unit
-Says tag n Wrong = Unit
+Says tag n Unknown = (1 ≤ tag) × (tag ≤ 7) → ⊥
+Says tag n Wrong = ((1 ≤ tag) × (tag ≤ 7)) × (n ≡ cond (eqb tag 4) 6 1 → ⊥)
 Says tag n Byte = (n ≡ 1) × (1 ≤ tag) × (tag ≤ 7) × (tag ≡ 4 → ⊥)
 Says tag n Layout.Times = (n ≡ 6) × (tag ≡ 4)
 
@@ -38,10 +42,12 @@ pub layout-says : (tag n : ℕ) → Says tag n (layoutOf tag n)
 unfolding layoutOf
 layout-says tag n =
     split (Says tag n) (eqb tag 4)
-    (λ a. split (Says tag n) (eqb n 6) (λ e. (eqb-true n 6 e, eqb-true tag 4 a)) (λ e. tt))
-    (λ a. split (Says tag n) (ltb tag 1) (λ b. tt)
-    (λ b. split (Says tag n) (ltb 7 tag) (λ d. tt)
-    (λ d. split (Says tag n) (eqb n 1) (λ e. (eqb-true n 1 e, ltb-false tag 1 b, ltb-false 7 tag d, eqb-false tag 4 a)) (λ e. tt))))
+    (λ a. let t = eqb-true tag 4 a in
+    split (Says tag n) (eqb n 6) (λ e. (eqb-true n 6 e, t)) (λ e. ((omega arith, omega arith), rw a (eqb-false n 6 e))))
+    (λ a. split (Says tag n) (ltb tag 1) (λ b k. let h = ltb-true tag 1 b in omega (arith, k .0))
+    (λ b. split (Says tag n) (ltb 7 tag) (λ d k. let h = ltb-true 7 tag d in omega (arith, k .1))
+    (λ d. split (Says tag n) (eqb n 1) (λ e. (eqb-true n 1 e, ltb-false tag 1 b, ltb-false 7 tag d, eqb-false tag 4 a))
+    (λ e. ((ltb-false tag 1 b, ltb-false 7 tag d), rw a (eqb-false n 1 e))))))
 
 pub layout-byte : (tag n : ℕ) → layoutOf tag n ≡ Byte → n ≡ 1
 layout-byte tag n e = (rw e at (layout-says tag n)) .0
@@ -57,3 +63,11 @@ unfolding fieldEntry
 entry-whole s at tag n layout h e =
     let m : length (take n (drop at s)) ≡ n = length-take-le n (drop at s) (simp length-drop (omega arith)) in
     rw (m, e) refl
+
+-- ---- field 07
+-- it is taken only where there is a network
+pub some-before : (S : Settings) → takesRelation (networksOf S) ≡ true → 0 < S .count
+unfolding takesRelation
+some-before S t =
+    let e = ending _ (networksOf S) t in
+    omega (arith, length-take (S .count) (S .networks), ap length (e .parts) ∙ length-append (e .before) (e .end ∷ []))

@@ -73,6 +73,12 @@ impl Entry {
     pub const TIMES_LENGTH: u16 = 6;
 
     pub const BYTE_LENGTH: u16 = 1;
+    // How far into the value of field 04 each of its numbers stands.
+    pub const SHORT_TIME: usize = 0;
+
+    pub const LONG_TIME: usize = Entry::SHORT_TIME + Field::NUMBER;
+
+    pub const ENSURE_TIME: usize = Entry::LONG_TIME + Field::NUMBER;
     // The lengths of the whole fields.
     pub const TIMES_FIELD: usize = Field::HEAD + Entry::TIMES_LENGTH as usize;
 

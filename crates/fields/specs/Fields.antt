@@ -1,10 +1,10 @@
 -- Bytes as a row of fields: the rules S1 and S13 of docs/RULES.md. The row serves the sheet, the events and every other input of this layout. Which
 -- tags there are, and how long their values have to be, is left to those who read the row.
-use Prim.Native.Nat.{ℕ, zero, suc, _+_, _*_, _/_, _%_}
+use Prim.Native.Nat.{ℕ, zero, suc, _+_, _*_, _/_, _%_, _≤_}
 use mathlib.Core.Path.{_≡_}
 use mathlib.Core.List.{List, [], _∷_, _++_}
 use mathlib.Core.Bool.{Bool, true, false, cond}
-use lib.ListN.{length, take, drop}
+use lib.ListN.{length, getD, take, drop}
 use Rattle.fields.specs.declared.Field.{Field}
 use Rattle.fields.specs.declared.Field.the-variants.{End, Stub, Overrun, Whole}
 
@@ -73,3 +73,8 @@ pub record ReadAt {A : Type 0} (make : Row → A) (s : List ℕ) (at : ℕ) (mad
 -- S1: a field as bytes: its tag, the length of its value in two bytes with the high one first, its value; then what follows it
 abbrev pub fieldBytes : ℕ → List ℕ → List ℕ → List ℕ
 fieldBytes tag v rest = tag ∷ length v / 256 ∷ length v % 256 ∷ (v ++ rest)
+
+-- S1: the places of the bytes at which a field begins: the first one, and the one behind a field that is whole, which is as long as it says
+pub data FieldStarts (b : List ℕ) : ℕ → Type 0 where
+  at-first : FieldStarts b 0
+  behind : (at n : ℕ) → FieldStarts b at → n ≡ getD b (at + 1) 0 * 256 + getD b (at + 2) 0 → at + 3 + n ≤ length b → FieldStarts b (at + 3 + n)

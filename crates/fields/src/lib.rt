@@ -19,6 +19,8 @@ pub enum Field {
 impl Field {
     // The bytes of a tag and a length.
     pub const HEAD: usize = 3;
+    // How far from the tag the length stands.
+    pub const LENGTH: usize = 1;
     // The numbers that a byte can be.
     pub const BYTE: u16 = 256;
     // The bytes of a number.

@@ -2,3 +2,4 @@ pub mod Careful
 pub mod Sound
 pub mod Counts
 pub mod Requests
+pub mod Places

@@ -1,18 +1,18 @@
 -- Reading from a place on, by what stands there; and that an entry that is taken brings the reader further.
-use Rattle.lists.proofs.Basics.{ℕ, _≤_, _<_, arith, leb-false, _≡_, refl, sym, ap, _∙_, List, [], _∷_, true, eqb, leb, length, length-take}
-use Rattle.lists.proofs.Basics.{length-append, drop}
-use Rattle.lists.proofs.Any.{ending}
+use Rattle.lists.proofs.Basics.{ℕ, _+_, _^_, _≤_, _<_, arith, leb-false, _≡_, refl, sym, ap, subst, _∙_, List, eqb, leb, length}
+use Rattle.lists.proofs.Basics.{length-drop, drop}
 use Rattle.lists.proofs.Tests.{split}
 use Rattle.fields.specs.declared.Field.{Field}
 use Rattle.fields.specs.declared.Field.the-variants.{Stub, Overrun, Whole}
 use Rattle.fields.specs.Fields.{front, rowAt, nextOf, ReadAt}
-use Rattle.fields.proofs.Laws.{row-further, rowFrom, row-from}
+use Rattle.fields.proofs.Laws.{Lies, front-lies, row-further, rowFrom, row-from}
 use Rattle.settings.specs.declared.Network.{Network}
 use Rattle.settings.specs.declared.Settings.{Settings}
 use Rattle.settings.specs.declared.Id.the-variants.{OfNetwork}
 use Rattle.settings.specs.Settings.{networksOf, used}
 use Rattle.entries.specs.declared.Fault.{Fault}
-use Rattle.entries.specs.declared.Fault.the-variants.{Cut}
+use Rattle.entries.specs.declared.Fault.the-variants.{Cut, UnknownTag, WrongLength, OutOfOrder, OutOfRange, UsedBefore, TooMany, NoTransceiver}
+use Rattle.entries.specs.declared.Fault.the-variants.{Empty}
 use Rattle.entries.specs.declared.Entry.{Entry}
 use Rattle.entries.specs.declared.Entry.the-variants.{End, Bad}
 use Rattle.entries.specs.declared.Progress.{Progress}
@@ -21,10 +21,10 @@ use Rattle.entries.specs.declared.Opening.{Opening}
 use Rattle.entries.specs.declared.Opening.the-variants.{Closes, Begins, Refuses, Amends}
 use Rattle.entries.specs.declared.Filling.{Filling}
 use Rattle.entries.specs.declared.Filled.{Filled}
-use Rattle.sheet.specs.declared.Reading.{Reading}
 use Rattle.entries.specs.Entries.{entryAt}
+use Rattle.entries.proofs.Laws.{some-before}
 use Rattle.entries.specs.Grammar.{begun, opensWith, takesRelation, onRelation, opens, fills}
-use Rattle.sheet.specs.Reading.{pushed, afterOpening, afterFilling, sheet, network}
+use Rattle.sheet.specs.Reading.{pushed, firstZero, numberIn, placeOf, afterOpening, afterFilling, sheet, network}
 
 -- ---- from a place on
 -- a next place is further on, and within the bytes
@@ -75,13 +75,6 @@ Started S entry (Begins handle) = Taken entry × (S .count < 8)
 Started S entry (Refuses fault) = Unit
 Started S entry Amends = Taken entry × (0 < S .count)
 
--- field 07 is taken only where there is a network
-some-before : (S : Settings) → takesRelation (networksOf S) ≡ true → 0 < S .count
-unfolding takesRelation
-some-before S t =
-    let e = ending _ (networksOf S) t in
-    omega (arith, length-take (S .count) (S .networks), ap length (e .parts) ∙ length-append (e .before) (e .end ∷ []))
-
 started : (S : Settings) (entry : Entry) → Started S entry (opens S entry)
 unfolding opens opensWith onRelation
 started S End = tt
@@ -97,6 +90,74 @@ started S (Entry.Partial x) = tt
 started S (Entry.Relation x) =
     split (Started S (Entry.Relation x)) (takesRelation (networksOf S))
     (λ t. split (Started S (Entry.Relation x)) (eqb x 1) (λ _. (tt, some-before S t)) (λ _. tt)) (λ _. tt)
+
+-- a refusal points at most seven bytes on from the tag
+first-zero-near : (x y z : ℕ) → firstZero x y z ≤ 4
+unfolding firstZero
+first-zero-near x y z =
+    split (λ (k : ℕ). k ≤ 4) (eqb x 0) (λ _. omega arith)
+    (λ _. split (λ (k : ℕ). k ≤ 4) (eqb y 0) (λ _. omega arith) (λ _. split (λ (k : ℕ). k ≤ 4) (eqb z 0) (λ _. omega arith) (λ _. omega arith)))
+
+number-near : (entry : Entry) → numberIn entry ≤ 4
+number-near End = omega arith
+number-near (Bad fault) = omega arith
+number-near (Entry.Handle handle) = omega arith
+number-near (Entry.Controller id) = omega arith
+number-near (Entry.Transceiver id) = omega arith
+number-near (Entry.Times x y z) = first-zero-near x y z
+number-near (Entry.Threshold x) = omega arith
+number-near (Entry.Partial x) = omega arith
+number-near (Entry.Relation x) = omega arith
+
+place-near : (fault : Fault) (entry : Entry) (at : ℕ) → placeOf fault entry at ≤ at + 7
+place-near Cut entry at = omega arith
+place-near UnknownTag entry at = omega arith
+place-near WrongLength entry at = omega arith
+place-near OutOfOrder entry at = omega arith
+place-near OutOfRange entry at = let k = number-near entry in omega arith
+place-near UsedBefore entry at = omega arith
+place-near TooMany entry at = omega arith
+place-near NoTransceiver entry at = omega arith
+place-near Empty entry at = omega arith
+
+-- a refusal has a place that is a number of the machine, since the bytes are few enough
+module _ (s : List ℕ) (at : ℕ) (few : length s < 2 ^ 63) (S : Settings) (fault : Fault) where
+  -- of what stands there
+  abbrev Fits : Field → Type 0
+  Fits f = front at (drop at s) ≡ f → placeOf fault (entryAt (rowFrom s at f)) at < 2 ^ 64
+
+  inside-fits : (entry : Entry) → at < length s → placeOf fault entry at < 2 ^ 64
+  inside-fits entry inside = omega (arith, place-near fault entry at, inside, few)
+
+  stub-fits : (tag : ℕ) → Fits (Stub tag)
+  stub-fits tag e =
+      let l : 0 < length (drop at s) = subst (Lies at (drop at s)) e (front-lies at (drop at s)) in
+      inside-fits (entryAt (rowFrom s at (Stub tag))) (omega (arith, length-drop at s, l))
+
+  overrun-fits : (tag n : ℕ) → Fits (Overrun tag n)
+  overrun-fits tag n e =
+      let l : 3 ≤ length (drop at s) = subst (Lies at (drop at s)) e (front-lies at (drop at s)) in
+      inside-fits (entryAt (rowFrom s at (Overrun tag n))) (omega (arith, length-drop at s, l))
+
+  whole-fits : (tag n next : ℕ) → Fits (Whole tag n next)
+  whole-fits tag n next e =
+      let r = row-further s at tag n next e in inside-fits (entryAt (rowFrom s at (Whole tag n next))) (omega arith)
+
+  -- the end is not refused where a network may begin
+  opened-fits : (f : Field) → Refuses fault ≡ opens S (entryAt (rowFrom s at f)) → Fits f
+  unfolding opens entryAt
+  opened-fits Field.End x = absurd (let z : _≡_ {A = ℕ} 0 1 = cc in omega arith)
+  opened-fits (Stub tag) x = stub-fits tag
+  opened-fits (Overrun tag n) x = overrun-fits tag n
+  opened-fits (Whole tag n next) x = whole-fits tag n next
+
+  -- within a network it is, and told where it is
+  filled-fits : (N : Network) (P : Progress) (f : Field) → fills S N P (entryAt (rowFrom s at f)) .filling ≡ Filling.Refused fault → at < 2 ^ 64 → Fits f
+  unfolding fills entryAt
+  filled-fits N P Field.End x fits = λ _. let same : Cut ≡ fault = cc in rw (← same) fits
+  filled-fits N P (Stub tag) x fits = stub-fits tag
+  filled-fits N P (Overrun tag n) x fits = overrun-fits tag n
+  filled-fits N P (Whole tag n next) x fits = whole-fits tag n next
 
 -- an entry that is not refused in a network
 filled-taken : (S : Settings) (N : Network) (P : Progress) (entry : Entry) →
@@ -120,6 +181,9 @@ module _ {s : List ℕ} {at : ℕ} {entry : Entry} {next : ℕ} (r : ReadAt entr
   further : Taken entry → Further s at next
   further t = rw (r .where-next) (taken-from s at (front at (drop at s)) refl (rw (r .what, here) at t))
 
+  pub opens-fits : (fault : Fault) → Refuses fault ≡ opens S entry → length s < 2 ^ 63 → placeOf fault entry at < 2 ^ 64
+  opens-fits fault e few = rw (r .what, here) (opened-fits s at few S fault (front at (drop at s)) (rw (r .what, here) at e) refl)
+
   pub sheet-by : (o : Opening) → o ≡ opens S entry →
       sheet (rowAt s at) S ≡ afterOpening o S entry at (λ handle. network (rowAt s next) S (begun handle) Named) (λ more. sheet (rowAt s next) more)
   sheet-by o e = rw (e, r .what, r .where-next, here) (sheet-from s at S (front at (drop at s)))
@@ -134,6 +198,11 @@ module _ {s : List ℕ} {at : ℕ} {entry : Entry} {next : ℕ} (r : ReadAt entr
     pub network-by : network (rowAt s at) S N P ≡
         afterFilling (m .filling) (m .network) entry at (λ n progress. network (rowAt s next) S n progress) (λ n. sheet (rowAt s next) (pushed S n))
     network-by = rw (e, r .what, r .where-next, here) (network-from s at S N P (front at (drop at s)))
+
+    pub fills-fits : (fault : Fault) → m .filling ≡ Filling.Refused fault → at < 2 ^ 64 → length s < 2 ^ 63 → placeOf fault entry at < 2 ^ 64
+    fills-fits fault x fits few =
+        let filled : fills S N P entry .filling ≡ Filling.Refused fault = sym (ap (λ (k : Filled). k .filling) e) ∙ x in
+        rw (r .what, here) (filled-fits s at few S fault N P (front at (drop at s)) (rw (r .what, here) at filled) fits refl)
 
     pub fills-further : ((fault : Fault) → m .filling ≡ Filling.Refused fault → ⊥) → Further s at next
     fills-further h = further (filled-taken S N P entry (λ fault x. h fault (ap (λ (k : Filled). k .filling) e ∙ x)))

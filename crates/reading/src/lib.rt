@@ -1,6 +1,5 @@
 // Reading a sheet, by two functions that call each other: one where a network may begin, one within a network.
 use entries::Entry;
-use entries::Fault;
 use entries::Filling;
 use entries::Opening;
 use entries::Progress;
@@ -8,77 +7,11 @@ use fields::Reader;
 use settings::Network;
 use settings::Settings;
 use sheet::Reading;
-use sheet::Verdict;
 ghost use mathlib.Core.Path.{_≡_};
 ghost use Prim.Native.Nat.{_<_};
 ghost use Rattle.fields.specs.Fields.{rowAt};
-ghost use Rattle.sheet.specs.Reading.{pushed, amended, placeOf, refusedAt, closed, sheet, network, readFrom};
+ghost use Rattle.sheet.specs.Reading.{sheet, network, readFrom};
 ghost use Rattle.sheet.specs.Outcomes.{ReadOutcome};
-
-// S24: a refused field's place is where its tag stands.
-fn place_of(_fault: Fault, _entry: Entry, at: usize) -> usize
-    ensures { λ r. ⌜ r ≡ placeOf «_fault» «_entry» at ⌝ }
-{
-    at
-}
-
-fn refuse(fault: Fault, place: usize) -> Reading
-    ensures { λ r. ⌜ r ≡ refusedAt fault place ⌝ }
-{
-    let settings = Settings::blank();
-    Reading {
-        answer: Verdict::Refused(fault),
-        place,
-        settings,
-    }
-}
-
-// S25, R5: the end of a sheet, at a place.
-fn close_sheet(settings: Settings, at: usize) -> Reading
-    ensures { λ r. ⌜ r ≡ closed settings at ⌝ }
-{
-    if settings.count == 0 {
-        return refuse(Fault::Empty, 0);
-    }
-    Reading {
-        answer: Verdict::Accepted,
-        place: at,
-        settings,
-    }
-}
-
-// The settings with one network more.
-fn push_network(settings: Settings, network: Network) -> Settings
-    requires { ⌜ settings .count < 8 ⌝ }
-    ensures { λ r. ⌜ r ≡ pushed settings network ⌝ }
-{
-    let count = settings.count;
-    let mut next = settings;
-    next.networks[count as usize] = network;
-    next.count = count + 1;
-    next
-}
-
-// S27: the settings, of which the last network has field 07.
-fn amend_network(settings: Settings) -> Settings
-    requires { ⌜ 0 < settings .count ⌝ }
-    ensures { λ r. ⌜ r ≡ amended settings ⌝ }
-{
-    let networks = settings.networks;
-    let used = Settings::in_use(settings.count);
-    let last = (used - 1) as usize;
-    let network = networks[last];
-    let mut next = settings;
-    next.networks[last] = grammar::add_relation(network);
-    next
-}
-
-// A field of a sheet that is refused, at its place.
-fn refuse_entry(fault: Fault, entry: Entry, at: usize) -> Reading
-    ensures { λ r. ⌜ r ≡ refusedAt fault (placeOf fault entry at) ⌝ }
-{
-    refuse(fault, place_of(fault, entry, at))
-}
 
 // S2: what follows where a network may begin, or where field 07 of the one before may stand.
 fn read_sheet<'a>(reader: Reader<'a>, settings: Settings) -> Reading
@@ -87,7 +20,7 @@ fn read_sheet<'a>(reader: Reader<'a>, settings: Settings) -> Reading
     let found = entries::next_entry(reader);
     let opening = grammar::open_network(settings, found.entry);
     match opening {
-        Opening::Closes => close_sheet(settings, reader.place),
+        Opening::Closes => reading_parts::close_sheet(settings, reader.place),
         Opening::Begins(handle) => {
             let begun = grammar::begin_network(handle);
             read_network(
@@ -97,9 +30,9 @@ fn read_sheet<'a>(reader: Reader<'a>, settings: Settings) -> Reading
                 Progress::Named,
             )
         }
-        Opening::Refuses(fault) => refuse_entry(fault, found.entry, reader.place),
+        Opening::Refuses(fault) => reading_parts::refuse_entry(fault, found.entry, reader.place),
         Opening::Amends => {
-            let more = amend_network(settings);
+            let more = reading_parts::amend_network(settings);
             read_sheet(reader.moved_to(found.next), more)
         }
     }
@@ -126,10 +59,10 @@ fn read_network<'a>(
             next,
         ),
         Filling::Whole => {
-            let more = push_network(settings, filled.network);
+            let more = reading_parts::push_network(settings, filled.network);
             read_sheet(reader.moved_to(found.next), more)
         }
-        Filling::Refused(fault) => refuse_entry(fault, found.entry, reader.place),
+        Filling::Refused(fault) => reading_parts::refuse_entry(fault, found.entry, reader.place),
     }
 }
 

@@ -2,4 +2,5 @@ pub mod Writes
 pub mod WriteThenRead
 pub mod ReadThenWrite
 pub mod SheetBytes
+pub mod Pointing
 pub mod Theorems

@@ -557,7 +557,7 @@ mutual
   sheet-told : (row : Row) → ByteRow row → SheetTold row
   sheet-told (stop at) w = λ ns s h. closed-told ns at s h
   sheet-told (stub at tag) w = λ ns s h. refused-told ns Same (stub at tag) Cut at
-  sheet-told (overrun at tag k) w = λ ns s h. refused-told ns Same (overrun at tag k) (overrunFault (layoutOf tag k)) at
+  sheet-told (overrun at tag k) w = λ ns s h. refused-told ns Same (overrun at tag k) (overrunFault (layoutOf tag k)) _
   sheet-told (field at tag v row) w =
       λ ns s h. opening-told (opens (settingsOf ns) (fieldEntry tag v)) (fieldEntry tag v) at tag v row ns
       (entry-starts ns tag v (fieldEntry tag v) (entry-means tag v (w .0))) s h (λ k. network-told row (w .1) ns s k) (sheet-told row (w .1))
@@ -566,7 +566,7 @@ mutual
   network-told (stop at) w = λ ns s h n progress p. refused-told ns (encodePart progress n) (stop at) Cut at
   network-told (stub at tag) w = λ ns s h n progress p. refused-told ns (encodePart progress n) (stub at tag) Cut at
   network-told (overrun at tag k) w =
-      λ ns s h n progress p. refused-told ns (encodePart progress n) (overrun at tag k) (overrunFault (layoutOf tag k)) at
+      λ ns s h n progress p. refused-told ns (encodePart progress n) (overrun at tag k) (overrunFault (layoutOf tag k)) _
   network-told (field at tag v row) w =
       λ ns s h n progress p. move-told (fills (settingsOf ns) n progress (fieldEntry tag v) .filling)
       (fills (settingsOf ns) n progress (fieldEntry tag v) .network) (fieldEntry tag v) at tag v row ns (encodePart progress n) s h

@@ -2,8 +2,9 @@
 use Rattle.lists.proofs.Basics.{ℕ, _≤_, le-leb, _≡_, refl, sym, ap, subst, _∙_, List, length, take, drop, take-append-seam}
 use Rattle.lists.specs.Lists.{Bytes}
 use Rattle.settings.specs.declared.Settings.{Settings}
+use Rattle.entries.specs.declared.Fault.{Fault}
 use Rattle.settings.specs.Good.{Good}
-use Rattle.sheet.specs.declared.Verdict.the-variants.{Accepted}
+use Rattle.sheet.specs.declared.Verdict.the-variants.{Accepted, Refused}
 use Rattle.sheet.specs.declared.Reading.{Reading}
 use Rattle.sheet.specs.declared.Written.{Written}
 use Rattle.sheet.specs.declared.Written.the-variants.{Length}
@@ -12,9 +13,11 @@ use Rattle.sheet.specs.Reading.{decode}
 use Rattle.sheet.specs.Encode.{encode}
 use Rattle.sheet.specs.Outcomes.{ReadOutcome, WriteOutcome}
 use Rattle.sheet.specs.RoundTrip.{WrittenAsRead}
+use Rattle.sheet.specs.Pointing.{Points, Within}
 use Rattle.sheet.proofs.WriteThenRead as Forth
 use Rattle.sheet.proofs.ReadThenWrite as Back
 use Rattle.sheet.proofs.SheetBytes as All
+use Rattle.sheet.proofs.Pointing as Place
 use Rattle.sheet.proofs.Writes.{encode-length}
 
 -- ---- 1. there and back
@@ -72,7 +75,16 @@ accepted-length b w e =
 pub sheet-bytes : (s : Settings) → Good s → Bytes (encode s)
 sheet-bytes = All.sheet-bytes
 
--- ---- 4. the outcome of a public call is one
+-- ---- 4. a refused sheet
+-- S24 to S29: what stands at its place is what the refusal says: for 32 a length that is wrong, for 34 a number that is out of its range
+pub refused-points : (b : List ℕ) (fault : Fault) → decode b .answer ≡ Refused fault → Points fault b (decode b .place)
+refused-points = Place.refused-points
+
+-- its place is one of its bytes; for 30 it may be the end, and for 38, which is for no bytes at all, it is 0
+pub refused-within : (b : List ℕ) (fault : Fault) → decode b .answer ≡ Refused fault → Within fault b (decode b .place)
+refused-within b fault e = Place.points-within fault b (decode b .place) (refused-points b fault e)
+
+-- ---- 5. the outcome of a public call is one
 pub read-outcome-one : (bytes : List ℕ) (r r′ : Reading) → ReadOutcome bytes r → ReadOutcome bytes r′ → r ≡ r′
 read-outcome-one bytes r r′ p q = p ∙ sym q
 

@@ -9,7 +9,7 @@ use Rattle.entries.specs.Entries.{layoutOf, byteEntry, timesEntry, wholeEntry, 
 use Rattle.entries.specs.Grammar.{opensWith, takesRelation, onRelation, addRelation, opens, begun, addController, addTransceiver, addTimes}
 use Rattle.entries.specs.Grammar.{addThreshold, addPartial, onController, onTransceiver, onTimes, onThreshold, onPartial, fills}
 use Rattle.sheet.specs.declared.Reading.{Reading}
-use Rattle.sheet.specs.Reading.{pushed, amended, refusedAt, closed, afterOpening, afterFilling, sheet, readFrom, decode}
+use Rattle.sheet.specs.Reading.{pushed, amended, firstZero, refusedAt, closed, afterOpening, afterFilling, sheet, readFrom, decode}
 
 -- E1 to E12: the sheet of these examples: handle 7, controller 3, times 2, 5 and 3, threshold 1, no transceiver, no partial networking
 abbrev pub benchSheet : List ℕ
@@ -28,5 +28,5 @@ newerSheet = benchSheet ++ (0x07 ∷ 0 ∷ 1 ∷ 1 ∷ [])
 unfoldable pub computedReading : List ℕ → Reading
 unfolding any lastly holds measured front onto past rows blankNetwork blankSettings used layoutOf byteEntry timesEntry wholeEntry fieldEntry opensWith
     takesRelation onRelation addRelation opens begun addController addTransceiver addTimes addThreshold addPartial onController onTransceiver onTimes
-    onThreshold onPartial fills pushed amended refusedAt closed afterOpening afterFilling sheet readFrom
+    onThreshold onPartial fills pushed amended firstZero refusedAt closed afterOpening afterFilling sheet readFrom
 computedReading l = decode l

@@ -5,3 +5,5 @@ pub mod Writing
 pub mod Outcomes
 pub mod Bench
 pub mod RoundTrip
+pub mod Pointing
+pub mod WrongPlaces

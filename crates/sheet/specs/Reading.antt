@@ -1,4 +1,5 @@
--- What reading a sheet gives, by recursion on the row of fields, as the bytes give it: the rules S2, S13, S24 to S27 and R3 to R5 of docs/RULES.md.
+-- What reading a sheet gives, by recursion on the row of fields, as the bytes give it: the rules S2, S13, S24 to S29 and R3 to R5 of
+-- docs/RULES.md.
 use Prim.Native.Nat.{ℕ, _+_, _-_}
 use mathlib.Core.List.{List}
 use mathlib.Core.Bool.{cond}
@@ -9,9 +10,10 @@ use Rattle.settings.specs.declared.Network.{Network}
 use Rattle.settings.specs.declared.Settings.{Settings}
 use Rattle.settings.specs.Settings.{blankNetwork, blankSettings, networksOf}
 use Rattle.entries.specs.declared.Fault.{Fault}
-use Rattle.entries.specs.declared.Fault.the-variants.{Cut, Empty}
+use Rattle.entries.specs.declared.Fault.the-variants.{Cut, UnknownTag, WrongLength, OutOfOrder, OutOfRange, UsedBefore, TooMany, NoTransceiver}
+use Rattle.entries.specs.declared.Fault.the-variants.{Empty}
 use Rattle.entries.specs.declared.Entry.{Entry}
-use Rattle.entries.specs.declared.Entry.the-variants.{Bad}
+use Rattle.entries.specs.declared.Entry.the-variants.{End, Bad}
 use Rattle.entries.specs.declared.Progress.{Progress}
 use Rattle.entries.specs.declared.Progress.the-variants.{Named}
 use Rattle.entries.specs.declared.Opening.{Opening}
@@ -37,9 +39,38 @@ unfoldable pub amended : Settings → Settings
 amended s =
     record { networks = set (s .networks) (lastPlace s) (addRelation (getD (s .networks) (lastPlace s) blankNetwork)); count = s .count }
 
--- S24: a refused field's place is where its tag stands, whatever the fault and the entry are
+-- S29: how far into the value the first of three times stands that is 0
+unfoldable pub firstZero : ℕ → ℕ → ℕ → ℕ
+firstZero short long ensure = cond (eqb short 0) 0 (cond (eqb long 0) 2 (cond (eqb ensure 0) 4 0))
+
+-- S29: how far into its value the number stands for which an entry is out of range: an entry with one number has it first
+abbrev pub numberIn : Entry → ℕ
+numberIn End = 0
+numberIn (Bad fault) = 0
+numberIn (Entry.Handle handle) = 0
+numberIn (Entry.Controller id) = 0
+numberIn (Entry.Transceiver id) = 0
+numberIn (Entry.Times short long ensure) = firstZero short long ensure
+numberIn (Entry.Threshold x) = 0
+numberIn (Entry.Partial x) = 0
+numberIn (Entry.Relation x) = 0
+
+-- S24, S28, S29: where a refused field is pointed at, by the place of its tag and by how far into its value the number stands: the tag; the first
+-- length byte; the first byte of the number
+abbrev pub pointed : Fault → ℕ → ℕ → ℕ
+pointed Cut number at = at
+pointed UnknownTag number at = at
+pointed WrongLength number at = at + 1
+pointed OutOfOrder number at = at
+pointed OutOfRange number at = at + 3 + number
+pointed UsedBefore number at = at
+pointed TooMany number at = at
+pointed NoTransceiver number at = at
+pointed Empty number at = at
+
+-- the same of an entry of the settings sheet
 abbrev pub placeOf : Fault → Entry → ℕ → ℕ
-placeOf fault entry at = at
+placeOf fault entry at = pointed fault (numberIn entry) at
 
 -- R3, R4: a refusal has its place; beside it the settings are blank and count no network
 unfoldable pub refusedAt : Fault → ℕ → Reading
@@ -62,7 +93,7 @@ afterFilling (More progress) n entry at more whole = more n progress
 afterFilling Whole n entry at more whole = whole n
 afterFilling (Filling.Refused fault) n entry at more whole = refusedAt fault (placeOf fault entry at)
 
--- S15 to S18, S24: a field that is laid out wrongly is refused where its tag stands
+-- S15 to S18, S24, S28: a field that is laid out wrongly is refused at its tag or, for its length, where that stands
 abbrev pub badAt : Fault → ℕ → Reading
 badAt fault at = refusedAt fault (placeOf fault (Bad fault) at)
 

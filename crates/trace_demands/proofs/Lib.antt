@@ -1,3 +1,4 @@
 pub mod Room
 pub mod Determined
 pub mod Recorded
+pub mod Refused

@@ -42,18 +42,18 @@ use Rattle.grammar.proofs.begin_network.Met.{met as begin-meets}
 use Rattle.grammar.proofs.fill_network as fill
 use Rattle.grammar.proofs.fill_network.Symbol.{name as #fill, routine as fill-routine}
 use Rattle.grammar.proofs.fill_network.Met.{met as fill-meets}
-use Rattle.reading.proofs.amend_network as amend
-use Rattle.reading.proofs.amend_network.Symbol.{name as #amend, routine as amend-routine}
-use Rattle.reading.proofs.amend_network.Met.{met as amend-meets}
-use Rattle.reading.proofs.close_sheet as close
-use Rattle.reading.proofs.close_sheet.Symbol.{name as #close, routine as close-routine}
-use Rattle.reading.proofs.close_sheet.Met.{met as close-meets}
-use Rattle.reading.proofs.push_network as push
-use Rattle.reading.proofs.push_network.Symbol.{name as #push, routine as push-routine}
-use Rattle.reading.proofs.push_network.Met.{met as push-meets}
-use Rattle.reading.proofs.refuse_entry as refuse
-use Rattle.reading.proofs.refuse_entry.Symbol.{name as #refuse, routine as refuse-routine}
-use Rattle.reading.proofs.refuse_entry.Met.{met as refuse-meets}
+use Rattle.reading_parts.proofs.amend_network as amend
+use Rattle.reading_parts.proofs.amend_network.Symbol.{name as #amend, routine as amend-routine}
+use Rattle.reading_parts.proofs.amend_network.Met.{met as amend-meets}
+use Rattle.reading_parts.proofs.close_sheet as close
+use Rattle.reading_parts.proofs.close_sheet.Symbol.{name as #close, routine as close-routine}
+use Rattle.reading_parts.proofs.close_sheet.Met.{met as close-meets}
+use Rattle.reading_parts.proofs.push_network as push
+use Rattle.reading_parts.proofs.push_network.Symbol.{name as #push, routine as push-routine}
+use Rattle.reading_parts.proofs.push_network.Met.{met as push-meets}
+use Rattle.reading_parts.proofs.refuse_entry as refuse
+use Rattle.reading_parts.proofs.refuse_entry.Symbol.{name as #refuse, routine as refuse-routine}
+use Rattle.reading_parts.proofs.refuse_entry.Met.{met as refuse-meets}
 use Rattle.reading.proofs.read_network as net
 use Rattle.reading.proofs.read_network.Key.{name as #net}
 use Rattle.reading.proofs.read_sheet as sheet
@@ -142,20 +142,20 @@ unfolding code.read-network-routine code.read-sheet-routine tablesOf
     let moved-met = cited 𝓤 H (Asked 𝓤 H A moved.ended (moved.clauses 𝓤 H A mem run)) 𝓜 𝓡 code.env #moved moved-routine
     code.calls-fields·Reader·moved-to (moved-meets 𝓤 H 𝓜 𝓖 𝓡) in
     let refuse-met = cited 𝓤 H (Asked 𝓤 H A refuse.ended (refuse.clauses 𝓤 H A mem run)) 𝓜 𝓡 code.env #refuse refuse-routine
-    code.calls-reading·refuse-entry (refuse-meets 𝓤 H 𝓜 𝓖 𝓡) in
+    code.calls-reading-parts·refuse-entry (refuse-meets 𝓤 H 𝓜 𝓖 𝓡) in
     mutual-elim 𝓤 H A (cycle.functions 𝓤 H A mem run) _<_ (Nat·lt-wfRel .wf)
     (net-grade 𝓤 H A W mem run 𝓣, sheet-grade 𝓤 H A W mem run 𝓣)
     (λ t below. net-method 𝓤 H A W mem run 𝓣 next-met moved-met refuse-met t (below .0) (below .1)
     (cited 𝓤 H (Asked 𝓤 H A fill.ended (fill.clauses 𝓤 H A mem run)) 𝓜 𝓡 code.env #fill fill-routine code.calls-grammar·fill-network
     (fill-meets 𝓤 H 𝓜 𝓖 𝓡))
-    (cited 𝓤 H (Asked 𝓤 H A push.ended (push.clauses 𝓤 H A mem run)) 𝓜 𝓡 code.env #push push-routine code.calls-reading·push-network
+    (cited 𝓤 H (Asked 𝓤 H A push.ended (push.clauses 𝓤 H A mem run)) 𝓜 𝓡 code.env #push push-routine code.calls-reading-parts·push-network
     (push-meets 𝓤 H 𝓜 𝓖 𝓡)) (code.read-network-unfolded 𝓤 H 𝓜 𝓡))
     (λ t below. sheet-method 𝓤 H A W mem run 𝓣 next-met moved-met refuse-met t (below .0) (below .1)
     (cited 𝓤 H (Asked 𝓤 H A opening.ended (opening.clauses 𝓤 H A mem run)) 𝓜 𝓡 code.env #opening opening-routine code.calls-grammar·open-network
     (opening-meets 𝓤 H 𝓜 𝓖 𝓡))
     (cited 𝓤 H (Asked 𝓤 H A begin.ended (begin.clauses 𝓤 H A mem run)) 𝓜 𝓡 code.env #begin begin-routine code.calls-grammar·begin-network
     (begin-meets 𝓤 H 𝓜 𝓖 𝓡))
-    (cited 𝓤 H (Asked 𝓤 H A amend.ended (amend.clauses 𝓤 H A mem run)) 𝓜 𝓡 code.env #amend amend-routine code.calls-reading·amend-network
+    (cited 𝓤 H (Asked 𝓤 H A amend.ended (amend.clauses 𝓤 H A mem run)) 𝓜 𝓡 code.env #amend amend-routine code.calls-reading-parts·amend-network
     (amend-meets 𝓤 H 𝓜 𝓖 𝓡))
-    (cited 𝓤 H (Asked 𝓤 H A close.ended (close.clauses 𝓤 H A mem run)) 𝓜 𝓡 code.env #close close-routine code.calls-reading·close-sheet
+    (cited 𝓤 H (Asked 𝓤 H A close.ended (close.clauses 𝓤 H A mem run)) 𝓜 𝓡 code.env #close close-routine code.calls-reading-parts·close-sheet
     (close-meets 𝓤 H 𝓜 𝓖 𝓡)) (code.read-sheet-unfolded 𝓤 H 𝓜 𝓡))

@@ -68,11 +68,11 @@ use Rattle.sheet.specs.declared.Reading.{Reading}
 use Rattle.sheet.specs.Reading.{sheet, network, pushed, afterFilling}
 use Rattle.sheet.proofs.Reading as Rg
 use Rattle.sheet.proofs.Reading.Laws as Rg′
-use Rattle.reading.proofs.Steps.{network-by, fills-further}
-use Rattle.reading.proofs.push_network as push
-use Rattle.reading.proofs.push_network.Symbol.{name as #push}
-use Rattle.reading.proofs.refuse_entry as refuse
-use Rattle.reading.proofs.refuse_entry.Symbol.{name as #refuse}
+use Rattle.reading.proofs.Steps.{network-by, fills-further, fills-fits}
+use Rattle.reading_parts.proofs.push_network as push
+use Rattle.reading_parts.proofs.push_network.Symbol.{name as #push}
+use Rattle.reading_parts.proofs.refuse_entry as refuse
+use Rattle.reading_parts.proofs.refuse_entry.Symbol.{name as #refuse}
 use Rattle.reading.proofs.read_sheet as other
 use Rattle.reading.proofs.read_sheet.Key.{name as #other}
 use Rattle.reading.proofs.read_network as this
@@ -83,7 +83,7 @@ use Rattle.reading.proofs.+read_network+read_sheet.Proof.Values.{differ
 use Rattle.reading.proofs.+read_network+read_sheet.Proof.Values.{reader-passed, reader-typed, settings-typed, network-typed}
 use Rattle.reading.proofs.+read_network+read_sheet.Proof.Values.{found-typed, reading-typed, filled-typed, filling-typed, fault-typed}
 use Rattle.reading.proofs.+read_network+read_sheet.Proof.Values.{progress-typed, settings-made, network-made, entry-made, progress-made}
-use Rattle.reading.proofs.+read_network+read_sheet.Proof.Values.{reading-made, place-fits, entry-is, next-fits, filling-is, network-is}
+use Rattle.reading.proofs.+read_network+read_sheet.Proof.Values.{reading-made, bytes-fit, place-fits, entry-is, next-fits, filling-is, network-is}
 use Rattle.reading.proofs.+read_network+read_sheet.Proof.Values.{progress-is, refused-is}
 
 -- at exit nothing is had of the parameters
@@ -260,6 +260,7 @@ module _ {M : Type 1} (𝓤 : URA M) (H : Heap 𝓤) (A : Atoms 𝓤) (W : Given
                         assigns ! (of-opd ! (load ! (from ! (fld ! refl (stop !))) (look-in ! 34 (sub ! 1 refl (whole !))))) (from ! (stop !))
                         (init ! 2 refl (tt, record { fits = place-fits κ d _ is-d })) $
                         refuses ! fm mem run refuse-met fault (f .entry) (d .place) is-x (entry-is f _ is-f) (place-fits κ d _ is-d)
+                        (fills-fits found s n g m e fault refl (place-fits κ d _ is-d) (bytes-fit κ d _ is-d))
                         (and-then ! (load ! (from ! (stop !)) (look ! 17 refl))
                         (and-then ! (load ! (from ! (fld ! refl (stop !))) (look-in ! 27 (sub ! 0 refl (whole !))))
                         (and-then ! (load ! (from ! (stop !)) (look ! 3 refl)) (no-more !)))) (λ r is-r e-r.

@@ -67,13 +67,13 @@ use Rattle.sheet.specs.declared.Reading.{Reading}
 use Rattle.sheet.specs.Reading.{amended, sheet, network, closed, afterOpening}
 use Rattle.sheet.proofs.Reading as Rg
 use Rattle.sheet.proofs.Reading.Laws as Rg′
-use Rattle.reading.proofs.Steps.{sheet-by, begins-further, amends-further}
-use Rattle.reading.proofs.amend_network as amend
-use Rattle.reading.proofs.amend_network.Symbol.{name as #amend}
-use Rattle.reading.proofs.close_sheet as close
-use Rattle.reading.proofs.close_sheet.Symbol.{name as #close}
-use Rattle.reading.proofs.refuse_entry as refuse
-use Rattle.reading.proofs.refuse_entry.Symbol.{name as #refuse}
+use Rattle.reading.proofs.Steps.{sheet-by, begins-further, amends-further, opens-fits}
+use Rattle.reading_parts.proofs.amend_network as amend
+use Rattle.reading_parts.proofs.amend_network.Symbol.{name as #amend}
+use Rattle.reading_parts.proofs.close_sheet as close
+use Rattle.reading_parts.proofs.close_sheet.Symbol.{name as #close}
+use Rattle.reading_parts.proofs.refuse_entry as refuse
+use Rattle.reading_parts.proofs.refuse_entry.Symbol.{name as #refuse}
 use Rattle.reading.proofs.read_network as other
 use Rattle.reading.proofs.read_network.Key.{name as #other}
 use Rattle.reading.proofs.read_sheet as this
@@ -84,7 +84,7 @@ use Rattle.reading.proofs.+read_network+read_sheet.Proof.Values.{differ
 use Rattle.reading.proofs.+read_network+read_sheet.Proof.Values.{reader-passed, reader-typed, settings-typed, network-typed}
 use Rattle.reading.proofs.+read_network+read_sheet.Proof.Values.{found-typed, reading-typed, opening-typed, fault-typed, progress-typed}
 use Rattle.reading.proofs.+read_network+read_sheet.Proof.Values.{settings-made, network-made, entry-made, progress-made, reading-made}
-use Rattle.reading.proofs.+read_network+read_sheet.Proof.Values.{place-fits, entry-is, next-fits, handle-fits, refusing-is, named-is}
+use Rattle.reading.proofs.+read_network+read_sheet.Proof.Values.{bytes-fit, place-fits, entry-is, next-fits, handle-fits, refusing-is, named-is}
 
 -- at exit nothing is had of the parameters
 abbrev pub stayed : Stays (this.ended .signature .params) (this.ended .kept)
@@ -237,7 +237,7 @@ module _ {M : Type 1} (𝓤 : URA M) (H : Heap 𝓤) (A : Atoms 𝓤) (W : Given
                       assigns ! (of-opd ! (load ! (from ! (fld ! refl (stop !))) (look-in ! 34 (sub ! 1 refl (whole !))))) (from ! (stop !))
                       (init ! 6 refl (tt, record { fits = place-fits κ d _ is-d })) $
                       refuses ! fm mem run refuse-met fault (f .entry) (d .place) (refusing-is fault _ is-o) (entry-is f _ is-f)
-                      (place-fits κ d _ is-d) (and-then ! (load ! (from ! (stop !)) (look ! 23 refl))
+                      (place-fits κ d _ is-d) (opens-fits found s fault e (bytes-fit κ d _ is-d)) (and-then ! (load ! (from ! (stop !)) (look ! 23 refl))
                       (and-then ! (load ! (from ! (fld ! refl (stop !))) (look-in ! 31 (sub ! 0 refl (whole !))))
                       (and-then ! (load ! (from ! (stop !)) (look ! 7 refl)) (no-more !)))) (λ r is-r e-r.
                       land-last ! (from ! (stop !)) (init ! 16 refl (reading-typed W r is-r)) $ forget ! 34 refl $ forget ! 32 refl $

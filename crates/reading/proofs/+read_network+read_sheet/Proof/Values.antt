@@ -20,7 +20,7 @@ use prog.Wp.{Heap, Env, Calls, Loops}
 use ghost.Atoms.{Atoms}
 use sound.WpLaws.{FmC}
 use contract.Lifetimes.{toks}
-use contract.Monad.{Fun}
+use contract.Monad.{Fun, factI}
 use types.Kit.{Given, Item, ‵, _⊛_, Post, runs, lands, settles, Seq, _$_, move, drop, use1, split, join}
 use types.Run.{Opds}
 use denote.RattleType.{RattleType}
@@ -74,8 +74,8 @@ use Rattle.sheet.specs.declared.Reading.{Reading}
 use Rattle.sheet.specs.Reading.{refusedAt, placeOf}
 use Rattle.sheet.proofs.Reading as Rg
 use Rattle.sheet.proofs.Reading.Laws as Rg′
-use Rattle.reading.proofs.refuse_entry as refuse
-use Rattle.reading.proofs.refuse_entry.Symbol.{name as #refuse}
+use Rattle.reading_parts.proofs.refuse_entry as refuse
+use Rattle.reading_parts.proofs.refuse_entry.Symbol.{name as #refuse}
 
 -- two numbers that are not the same
 pub differ : (m n : ℕ) → Holds (not (eqb m n)) → m ≡ n → ⊥
@@ -164,6 +164,9 @@ at-low : {R : RattleType} (L : Lowered R) (x : R .Denot) (vs : List Val) → Is 
 at-low {R} L x vs p = subst (Is R x) (L .val-is x vs p) p
 
 -- the parts of a value
+pub bytes-fit : (κ : Lft) (d : Reader) (vs : List Val) → Is (B (κ, tt)) d vs → length (now (d .bytes)) < 2 ^ 63
+bytes-fit κ d vs p = omega (arith, LL.owed (Rd.the-type (namedLft 1 0 tt (κ, tt))) (Rd′.the-laws (namedLft 1 0 tt (κ, tt))) d vs p .0 .0 .1 .1)
+
 pub place-fits : (κ : Lft) (d : Reader) (vs : List Val) → Is (B (κ, tt)) d vs → d .place < 2 ^ 64
 place-fits κ d vs p = p .1 .1 .1 .0 .1
 
@@ -217,13 +220,15 @@ module _ {M : Type 1} {𝓤 : URA M} {H : Heap 𝓤} {A : Atoms 𝓤} {K : Type 
   pub refuses : K → FmC 𝓤 H (W .laws) C → (mem : Memory → SProp 𝓤) (run : Routine → Fun 𝓤)
       → Triple 𝓤 (C #refuse) (Asked 𝓤 H A refuse.ended (refuse.clauses 𝓤 H A mem run)) → (fault : Fault) (entry : Entry) (place : ℕ)
       → Is Fa.the-row fault (Fa′.lowered fault ∷ []) → Is En.the-row entry (En′.lowered entry ∷ []) → place < 2 ^ 64
+      → placeOf fault entry place < 2 ^ 64
       → Opds K W (‵ ftrue ∷ Γ) E xs (Fa′.lowered fault ∷ En′.lowered entry ∷ vint w64 place ∷ [])
       → ((r : Reading) → Is Rg.the-row r (Rg′.lowered r ∷ []) → r ≡ refusedAt fault (placeOf fault entry place)
       → Seq K W Γ (settles E p (Rg′.lowered r) post))
       → Seq K W Γ (runs C Λ E (call #refuse xs p) post)
-  refuses t fm mem run met fault entry place is-fault is-entry fits os k =
+  refuses t fm mem run met fault entry place is-fault is-entry fits pointed os k =
       let y : Asked 𝓤 H A refuse.ended (refuse.clauses 𝓤 H A mem run) .Ghost =
       ((tt, tt, tt, (fault, (entry, (place, tt))), (Fa′.lowered fault ∷ [], (En′.lowered entry ∷ [], (vint w64 place ∷ [], tt)))), tt) in
       asks-plainly-last t fm refuse.ended (refuse.clauses 𝓤 H A mem run) y (id⊢ 𝓤 (emp 𝓤))
-      (fault-made 𝓤 H A, (entry-made 𝓤 H A, (uint-makes 𝓤 H A W w64, tt))) (is-fault, (is-entry, ((refl, fits), tt))) (id⊢ 𝓤 (emp 𝓤))
+      (fault-made 𝓤 H A, (entry-made 𝓤 H A, (uint-makes 𝓤 H A W w64, tt))) (is-fault, (is-entry, ((refl, fits), tt)))
+      (factI 𝓤 (placeOf fault entry place < 2 ^ 64) (emp 𝓤) pointed)
       Rg′.lowers (λ r. r ≡ refusedAt fault (placeOf fault entry place)) (λ r ws. refl) (met y) os k

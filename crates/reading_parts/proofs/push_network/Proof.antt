@@ -1,7 +1,7 @@
--- `reading::push_network` meets its contract.
+-- `reading_parts::push_network` meets its contract.
 use Rattle.lists.proofs.Basics.{refl, needs}
-use Rattle.reading.proofs.push_network.Statement.{statement}
-use Rattle.reading.proofs.push_network.Tie as tie
+use Rattle.reading_parts.proofs.push_network.Statement.{statement}
+use Rattle.reading_parts.proofs.push_network.Tie as tie
 use Rattle.sheet.specs.Reading.{pushed}
 
 pub push-network-spec : {M : Type 1} → statement M

@@ -1,7 +1,7 @@
--- `reading::refuse` meets its contract.
+-- `reading_parts::refuse` meets its contract.
 use Rattle.lists.proofs.Basics.{needs}
-use Rattle.reading.proofs.refuse.Statement.{statement}
-use Rattle.reading.proofs.refuse.Tie as tie
+use Rattle.reading_parts.proofs.refuse.Statement.{statement}
+use Rattle.reading_parts.proofs.refuse.Tie as tie
 use Rattle.sheet.specs.Reading.{refusedAt}
 
 pub refuse-spec : {M : Type 1} → statement M

@@ -1,7 +1,7 @@
--- `reading::close_sheet` meets its contract.
+-- `reading_parts::close_sheet` meets its contract.
 use Rattle.lists.proofs.Basics.{eq-eqb, ne-eqb, needs}
-use Rattle.reading.proofs.close_sheet.Statement.{statement}
-use Rattle.reading.proofs.close_sheet.Tie as tie
+use Rattle.reading_parts.proofs.close_sheet.Statement.{statement}
+use Rattle.reading_parts.proofs.close_sheet.Tie as tie
 use Rattle.sheet.specs.Reading.{closed}
 
 pub close-sheet-spec : {M : Type 1} → statement M

@@ -1,10 +1,10 @@
--- `reading::amend_network` meets its contract: the last network is the one before the first slot that is not in use.
+-- `reading_parts::amend_network` meets its contract: the last network is the one before the first slot that is not in use.
 use Rattle.lists.proofs.Basics.{ℕ, _-_, _<_, arith, _≡_, refl, ap, _∙_, length, getD, length-map, length-take, needs}
 use Rattle.lists.proofs.Parts.{getD-any}
 use Rattle.settings.specs.Settings.{blankNetwork}
 use Rattle.entries.specs.Grammar.{addRelation}
-use Rattle.reading.proofs.amend_network.Statement.{statement}
-use Rattle.reading.proofs.amend_network.Tie as tie
+use Rattle.reading_parts.proofs.amend_network.Statement.{statement}
+use Rattle.reading_parts.proofs.amend_network.Tie as tie
 use Rattle.sheet.specs.Reading.{lastPlace, amended}
 
 returns : tie.Need-returns
