@@ -1,14 +1,15 @@
 """What demand 3 and the promises beside it say of a history, as `crates/network_demands/specs` and `crates/demands/specs` say it.
 
 Written over calls, answers and records alone: nothing here looks into a manager. A history has the latest entry last. The words have the
-names of the definitions (`up`, `rested`, `on`, `awaited`, `runs`), and `broken` names every statement that is false of a history.
+names of the definitions (`up`, `rested`, `on`, `awaited`, `runs`, `granted`), and so have the figures; `broken` names every statement that is
+false of a history.
 """
 
 from dataclasses import dataclass
 from typing import Callable, List, NamedTuple, Optional, Set, Tuple
 
 from model import ACCEPTED, ControllerMode, EventManagerNotice, Kind, Limit, Mode, ModeManagerNotice, PduMode, Record, Refusal, Relation, Settings
-from model import TransceiverMode
+from model import Outfit, TransceiverMode, outfit_of
 
 TICK = "tick"
 BUS_OFF = "bus-off"
@@ -19,6 +20,11 @@ REPORT = "report"
 CLEARED = "cleared"
 CHECKED = "checked"
 NOTHING = "nothing"
+# What an answer of a controller says to the request.
+NOT_OK = 0
+OK = 1
+# The records that ask for something.
+REQUEST_KINDS = (Kind.CONTROLLER_MODE, Kind.TRANSCEIVER_MODE, Kind.CLEAR_WAKE_FLAG, Kind.CHECK_WAKE_FLAG)
 
 
 @dataclass
@@ -115,22 +121,70 @@ def stalled(entry: Seen) -> bool:
     return entry.sight == STALL and entry.accepted
 
 
+def struck(entry: Seen) -> bool:
+    """A bus-off or a stall that was accepted: what stood asked for no longer does."""
+    return (fell(entry) and entry.accepted) or stalled(entry)
+
+
 def ticks(history: History) -> int:
     return sum(ticked(entry) for entry in history)
 
 
+def record_count(part: History) -> int:
+    """How many records a part of a history has that name the network's ids."""
+    return sum(len(entry.records) for entry in part)
+
+
+def grants(record: Record, entry: Seen) -> bool:
+    """A call that says ok to the request or reports what it asks for, whatever the box answers to it."""
+    kind, target, argument = record
+    if kind == Kind.CONTROLLER_MODE:
+        return entry.sight == ANSWER and entry.values == (target, argument, OK)
+    if kind == Kind.TRANSCEIVER_MODE:
+        return entry.sight == REPORT and entry.values[1] == argument
+    return entry.sight == {Kind.CLEAR_WAKE_FLAG: CLEARED, Kind.CHECK_WAKE_FLAG: CHECKED}[kind]
+
+
+def denies(record: Record, entry: Seen) -> bool:
+    """A call that says not ok to the request, which only a controller can."""
+    kind, target, argument = record
+    return kind == Kind.CONTROLLER_MODE and entry.sight == ANSWER and entry.values == (target, argument, NOT_OK)
+
+
+def granted(record: Record, part: History) -> bool:
+    """Since the last tick of the part, the last call that answers the request says ok."""
+    for entry in reversed(part):
+        if ticked(entry) or denies(record, entry):
+            return False
+        if grants(record, entry):
+            return True
+    return False
+
+
+def last_handed(part: History) -> List[Record]:
+    """What the last tick of the part handed out; nothing, where there is none."""
+    return next((entry.records for entry in reversed(part) if ticked(entry)), [])
+
+
+def all_granted(part: History) -> bool:
+    """Each request that the last tick of the part handed out is granted."""
+    return all(granted(record, part) for record in last_handed(part) if record[0] in REQUEST_KINDS)
+
+
 class Words:
-    """The words of demand 3 for one network."""
+    """The words of demand 3 and of good ticks, for one network."""
 
     def __init__(self, network: Settings):
         self.network = network
         self.handle = network.handle
+        self.shutdown_record = (Kind.MODE_MANAGER, network.handle, ModeManagerNotice.NO)
 
     def tells(self, mode: int) -> Test:
-        return lambda entry: entry.hands(Kind.COMMUNICATION_MANAGER, self.handle, mode)
+        record = (Kind.COMMUNICATION_MANAGER, self.handle, mode)
+        return lambda entry: record in entry.records
 
     def shut(self, entry: Seen) -> bool:
-        return entry.hands(Kind.MODE_MANAGER, self.handle, ModeManagerNotice.NO)
+        return self.shutdown_record in entry.records
 
     def cleared(self, entry: Seen) -> bool:
         return entry.hands(Kind.EVENT_MANAGER, self.handle, EventManagerNotice.PASSED)
@@ -168,11 +222,18 @@ class Words:
     def rested(self, history: History) -> bool:
         return any(self.tells(Mode.NO)(entry) for entry in since(self.shut, history))
 
-    def on(self, history: History) -> bool:
-        """It came to rest, and full was wanted at some tick since no was last told."""
+    def called_up(self, history: History) -> bool:
+        """Full was wanted at some tick since no was last told."""
         begin = len(history) - len(since(self.tells(Mode.NO), history))
-        called_up = any(ticked(history[place]) and self.wanted(history[:place]) == Mode.FULL for place in range(begin, len(history)))
-        return self.rested(history) and called_up
+        return any(ticked(history[place]) and self.wanted(history[:place]) == Mode.FULL for place in range(begin, len(history)))
+
+    def on(self, history: History) -> bool:
+        """It came to rest, and was called up since."""
+        return self.called_up(history) and self.rested(history)
+
+    def at_rest(self, history: History) -> bool:
+        """It came to rest, and was not called up since."""
+        return not self.called_up(history) and self.rested(history)
 
     def asked_to_start(self, controller: int, history: History) -> bool:
         return any(entry.hands(Kind.CONTROLLER_MODE, controller, ControllerMode.STARTED) for entry in history)
@@ -182,7 +243,7 @@ class Words:
         for place in range(len(history) - 1, -1, -1):
             entry = history[place]
             if entry.sight == ANSWER and entry.accepted and entry.values[:2] == (controller, ControllerMode.STARTED):
-                return entry.values[2] == 1 and self.asked_to_start(controller, history[:place])
+                return entry.values[2] == OK and self.asked_to_start(controller, history[:place])
         return False
 
     def all_run(self, history: History) -> bool:
@@ -217,9 +278,7 @@ class Words:
 
     def delay_at(self, history: History) -> int:
         """The long delay where those that count exceed the threshold; by the newer rule of a network, where they come up to it."""
-        threshold, falls = self.network.threshold, self.falls(history)
-        is_long = threshold <= falls if self.network.relation == Relation.AT_OR_ABOVE else threshold < falls
-        return self.network.long_delay if is_long else self.network.short_delay
+        return self.network.long_delay if exceeds(self.network, self.falls(history)) else self.network.short_delay
 
     def owed(self, history: History) -> int:
         """The delay that the last setback brings: that of a bus-off while up, else none."""
@@ -243,7 +302,7 @@ class Words:
         for entry in reversed(history):
             if ticked(entry):
                 return entry.hands(kind, target, argument)
-            if (fell(entry) and entry.accepted) or stalled(entry):
+            if struck(entry):
                 return False
         return False
 
@@ -251,34 +310,112 @@ class Words:
         """Its last accepted answer to the request to stop is ok."""
         for entry in reversed(history):
             if entry.sight == ANSWER and entry.accepted and entry.values[:2] == (controller, ControllerMode.STOPPED):
-                return entry.values[2] == 1
+                return entry.values[2] == OK
         return False
 
     def all_stopped(self, history: History) -> bool:
         return all(self.stopped(controller, history) for controller in self.network.controllers)
 
-    def good_since(self, place: int, history: History) -> bool:
-        """After the entry at this place full is wanted at every tick, each request to a controller is answered with ok before the next tick,
-        and no answer that is taken says not ok."""
-        unanswered: Set[Tuple[int, int]] = set()
-        wanted = self.wanted(history[:place + 1])
-        for entry in history[place + 1:]:
-            if ticked(entry):
-                if unanswered or wanted != Mode.FULL:
-                    return False
-                unanswered = {(target, mode) for kind, target, mode in entry.records if kind == Kind.CONTROLLER_MODE}
-            elif entry.sight == REQUEST and entry.accepted:
-                wanted = entry.values[1]
-            elif entry.sight == ANSWER and entry.values[2] == 1:
-                unanswered.discard(entry.values[:2])
-            elif entry.sight == ANSWER and entry.accepted:
+    def good_ticks(self, number: int, part: History, before: History) -> bool:
+        """Of the part that follows `before`: from its tick with this number on full is wanted at each; at each, all that its tick before handed
+        out as requests is granted; no bus-off and no stall was accepted. Nothing is asked of what stood open before the part."""
+        passed = 0
+        for place, entry in enumerate(part):
+            if struck(entry):
                 return False
+            if ticked(entry):
+                passed += 1
+                if passed >= number and self.wanted(before + part[:place]) != Mode.FULL:
+                    return False
+                if not all_granted(part[:place]):
+                    return False
         return True
+
+    def good_starts(self, history: History) -> List[int]:
+        """The places from which on the ticks are good, with full wanted at all of them; the latest place first. What is good from one place on is
+        good from each later one, so they are found from the end backwards."""
+        starts = [len(history)]
+        following: Optional[int] = None
+        for place in range(len(history) - 1, -1, -1):
+            if struck(history[place]):
+                break
+            if ticked(history[place]):
+                unanswered = following is not None and not all_granted(history[place:following])
+                if unanswered or self.wanted(history[:place]) != Mode.FULL:
+                    break
+                following = place
+            starts.append(place)
+        return starts
+
+
+# ---------------------------------------------------------------------------
+# The figures
+# ---------------------------------------------------------------------------
+
+
+def by_outfit(network: Settings, bare: int, fitted: int, partial: int) -> int:
+    """One of three: without a transceiver, with one, and with partial networking."""
+    figures = {Outfit.NO_TRANSCEIVER: bare, Outfit.TRANSCEIVER: fitted, Outfit.PARTIAL_NETWORKING: partial}
+    return figures[outfit_of(network)]
+
+
+def ticks_from_rest(network: Settings) -> int:
+    """The number of the tick that tells full, from rest."""
+    # F3: the third tick, and with a transceiver the fourth
+    return by_outfit(network, 3, 4, 4)
+
+
+def records_from_rest(network: Settings) -> int:
+    # F4: three for each controller, and two more, or three with a transceiver
+    return 3 * len(network.controllers) + by_outfit(network, 2, 3, 3)
+
+
+def ticks_to_rest(network: Settings) -> int:
+    """The number of the tick that tells no, from the start."""
+    # F6: the third, fourth or sixth tick
+    return by_outfit(network, 3, 4, 6)
+
+
+def ticks_from_start(network: Settings) -> int:
+    """The number of the tick that tells full, from the start."""
+    # F6: the sixth, eighth or tenth tick
+    return by_outfit(network, 6, 8, 10)
+
+
+def records_from_start(network: Settings) -> int:
+    # F7: five for each controller, and three, five or seven more
+    return 5 * len(network.controllers) + by_outfit(network, 3, 5, 7)
+
+
+def exceeds(network: Settings, count: int) -> bool:
+    """So many bus-offs bring the long delay: more than the threshold, or by the newer rule at least as many."""
+    return network.threshold <= count if network.relation == Relation.AT_OR_ABOVE else network.threshold < count
+
+
+def longest_delay(network: Settings) -> int:
+    # F8: the long one, or the short one where that is longer and the first bus-off does not bring the long one yet
+    return network.long_delay if exceeds(network, 1) else max(network.long_delay, network.short_delay)
+
+
+def most_ticks(network: Settings) -> int:
+    """So many good ticks are enough from anywhere."""
+    # F8: 6, 8 or 11, or the longest delay and two, whichever is more
+    return max(by_outfit(network, 6, 8, 11), longest_delay(network) + 2)
 
 
 # ---------------------------------------------------------------------------
 # The statements
 # ---------------------------------------------------------------------------
+
+
+def full_on_just(words: Words, due: int, mode: int, part: History, history: History) -> bool:
+    """Of the part at the end of a history: up to its tick with the number `due` that mode is the one last told, and full from it on; and its last
+    entry says full exactly if it is that tick."""
+    passed = ticks(part)
+    told = words.told(history) == (Mode.FULL if passed >= due else mode)
+    says_full = any(words.tells(Mode.FULL)(entry) for entry in part[-1:])
+    on_this_tick = any(ticked(entry) for entry in part[-1:]) and passed == due
+    return told and says_full == on_this_tick
 
 
 def broken_by_told(words: Words, history: History) -> List[str]:
@@ -323,7 +460,7 @@ def broken_by_one_fault(words: Words, history: History) -> List[str]:
 
 
 def broken_by_good_times(words: Words, history: History) -> List[str]:
-    """Where conditions are good since the last setback, full is told on just one tick: after a bus-off while up on that of the delay and two,
+    """Where the ticks are good since the last setback, full is told on just one: after a bus-off while up on that of the delay and two,
     after a stall on the third."""
     place = words.last_setback(history)
     if words.fell_up(place, history):
@@ -332,12 +469,48 @@ def broken_by_good_times(words: Words, history: History) -> List[str]:
         name, due = "third-tick", TICKS_OF_A_RESET
     else:
         return []
-    if not words.good_since(place, history):
+    if not words.good_ticks(1, history[place + 1:], history[:place + 1]):
         return []
-    passed = ticks(history[place + 1:])
-    on_this_tick = ticked(history[-1]) and passed == due
-    right = words.told(history) == (Mode.FULL if passed >= due else Mode.SILENT) and words.tells(Mode.FULL)(history[-1]) == on_this_tick
-    return [] if right else [name]
+    return [] if full_on_just(words, due, Mode.SILENT, history[place + 1:], history) else [name]
+
+
+def broken_from_rest(words: Words, history: History) -> List[str]:
+    """With good ticks from rest on, wherever they begin: full on just one tick, and so many records up to it."""
+    due = ticks_from_rest(words.network)
+    found = []
+    for start in words.good_starts(history):
+        part = history[start:]
+        names = [] if full_on_just(words, due, Mode.NO, part, history) else ["from-rest"]
+        if ticks(part) == due and record_count(part) != records_from_rest(words.network):
+            names.append("records-from-rest")
+        # this is looked at last, since it takes the longest
+        if names and words.at_rest(history[:start]):
+            found += names
+    return found
+
+
+def broken_from_start(words: Words, history: History) -> List[str]:
+    """With good ticks from the start on: no on just one tick, full on just one, and so many records up to it; what is wanted before no is told does
+    not matter."""
+    network, last, passed = words.network, history[-1], ticks(history)
+    rest, due = ticks_to_rest(network), ticks_from_start(network)
+    if not words.good_ticks(rest + 1, history, []):
+        return []
+    found = []
+    if ticked(last) and words.tells(Mode.NO)(last) != (passed == rest):
+        found.append("to-rest")
+    if not full_on_just(words, due, Mode.NO, history, history):
+        found.append("from-start")
+    if passed == due and record_count(history) != records_from_start(network):
+        found.append("records-from-start")
+    return found
+
+
+def broken_from_anywhere(words: Words, history: History) -> List[str]:
+    """Whatever went before, full is told after enough good ticks; of all the parts at the end that are good the longest has the most."""
+    longest = history[words.good_starts(history)[-1]:]
+    stuck = ticks(longest) >= most_ticks(words.network) and words.told(history) != Mode.FULL
+    return ["never-stuck"] if stuck else []
 
 
 def broken_by_stall(words: Words, entry: Seen, before: History) -> List[str]:
@@ -481,25 +654,41 @@ def broken_by_start(words: Words, entry: Seen, before: History) -> List[str]:
             first = not words.asked_to_start(controller, before[place + 1:])
             if after_stall and first and not words.all_stopped(before[place + 1:]):
                 found.append("start-after-stall")
+    # F5: of a tick two more than there are controllers
     most = {TICK: len(words.network.controllers) + 2, BUS_OFF: 3, STALL: 1}.get(entry.sight, 0)
     if len(entry.records) > most:
         found.append("few-records")
     return found
 
 
-STATEMENTS_OF_A_HISTORY = (broken_by_told, broken_by_delay, broken_by_one_fault, broken_by_good_times)
+STATEMENTS_OF_A_HISTORY = (
+    broken_by_told, broken_by_delay, broken_by_one_fault, broken_by_good_times, broken_from_rest, broken_from_start, broken_from_anywhere,
+)
 STATEMENTS_OF_AN_ENTRY = (
     broken_by_bus_off, broken_by_stall, broken_by_answer, broken_by_request, broken_by_full, broken_by_silent, broken_by_down,
     broken_by_start,
 )
 
 
+def broken_after(words: Words, number: int, history: History) -> List[str]:
+    """The names of the statements that are false after so many entries of a history."""
+    before, entry = history[:number - 1], history[number - 1]
+    names = [name for statement in STATEMENTS_OF_A_HISTORY for name in statement(words, before + [entry])]
+    names += [name for statement in STATEMENTS_OF_AN_ENTRY for name in statement(words, entry, before)]
+    return sorted(set(names))
+
+
 def broken(network: Settings, history: History) -> Optional[Tuple[int, List[str]]]:
     """The first entry, by its number from 1, after which some statement is false, with the names of those; None where all hold."""
     words = Words(network)
-    for place, entry in enumerate(history):
-        names = [name for statement in STATEMENTS_OF_A_HISTORY for name in statement(words, history[:place + 1])]
-        names += [name for statement in STATEMENTS_OF_AN_ENTRY for name in statement(words, entry, history[:place])]
+    for number in range(1, len(history) + 1):
+        names = broken_after(words, number, history)
         if names:
-            return place + 1, sorted(set(names))
+            return number, names
     return None
+
+
+def ever_broken(network: Settings, history: History) -> Set[str]:
+    """The names of all statements that are false after some entry of a history."""
+    words = Words(network)
+    return {name for number in range(1, len(history) + 1) for name in broken_after(words, number, history)}

@@ -7,31 +7,35 @@ the test says which statement is false of it, and finds a history that shows it.
 
 import unittest
 from collections import Counter
+from contextlib import ExitStack, contextmanager
 from dataclasses import replace
 from random import Random
-from typing import Dict, List, NamedTuple, Optional, Set, Tuple
+from typing import Callable, Dict, Iterator, List, NamedTuple, Optional, Sequence, Set, Tuple
 from unittest.mock import patch
 
 import model
-from model import Kind, Limit, Mode, Refusal, Relation, Settings, Step
-from promises import ANSWER, BUS_OFF, CHECKED, CLEARED, REPORT, REQUEST, STALL, TICK, Call, History, Words, broken, view
+from model import ControllerMode, Kind, Limit, Mode, Outfit, Refusal, Relation, Settings, Step, TransceiverMode
+from promises import ANSWER, BUS_OFF, CHECKED, CLEARED, NOT_OK, OK, REPORT, REQUEST, STALL, TICK, Call, History, Words, broken, ever_broken
+from promises import most_ticks, own_records, ticked, ticks, ticks_from_rest, ticks_from_start, ticks_to_rest, view
 
 HISTORIES = 60
 CALLS_OF_A_HISTORY = 70
+# Histories that end with good ticks.
+KIND_HISTORIES = 60
 # A wrong box may need a rare history: so many are tried before it counts as not found.
 MOST_HISTORIES = 400
 FULL_ROOM = 144
 
 
-def random_sheet(random: Random) -> List[Settings]:
-    """One or two networks with one or two controllers each, short times, every outfit, and both rules for the threshold."""
+def random_sheet(random: Random, sizes: Sequence[int] = (1, 2)) -> List[Settings]:
+    """One or two networks with so many controllers each, short times, every outfit, and both rules for the threshold."""
     networks = []
     for number in range(random.choice((1, 1, 2))):
         outfit = random.choice((0, 1, 2))
         networks.append(
             Settings(
                 handle=number + 1,
-                controllers=[2 * number + at for at in range(random.choice((1, 2)))],
+                controllers=[max(sizes) * number + at for at in range(random.choice(sizes))],
                 transceiver=None if outfit == 0 else number,
                 short_delay=random.randint(1, 3),
                 long_delay=random.randint(1, 6),
@@ -44,18 +48,23 @@ def random_sheet(random: Random) -> List[Settings]:
     return networks
 
 
+def answer_to(record: model.Record, ok: int = OK) -> List[Call]:
+    """What a neighbour below answers to a record, if it asks for something; only a controller can say that it is not ok."""
+    kind, target, argument = record
+    calls = {
+        Kind.CONTROLLER_MODE: Call(ANSWER, (target, argument, ok)),
+        Kind.TRANSCEIVER_MODE: Call(REPORT, (target, argument)),
+        Kind.CLEAR_WAKE_FLAG: Call(CLEARED, (target,)),
+        Kind.CHECK_WAKE_FLAG: Call(CHECKED, (target,)),
+    }
+    return [calls[kind]] if kind in calls else []
+
+
 def answers_to(random: Random, records: List[model.Record]) -> List[Call]:
     """What the neighbours below answer to records: mostly what was asked for, in some order, some twice or not at all."""
     calls = []
-    for kind, target, argument in records:
-        if kind == Kind.CONTROLLER_MODE:
-            calls.append(Call(ANSWER, (target, argument, int(random.random() < 0.85))))
-        elif kind == Kind.TRANSCEIVER_MODE:
-            calls.append(Call(REPORT, (target, argument)))
-        elif kind == Kind.CLEAR_WAKE_FLAG:
-            calls.append(Call(CLEARED, (target,)))
-        elif kind == Kind.CHECK_WAKE_FLAG:
-            calls.append(Call(CHECKED, (target,)))
+    for record in records:
+        calls += answer_to(record, int(random.random() < 0.85) if record[0] == Kind.CONTROLLER_MODE else OK)
     if random.random() < 0.2:
         calls += calls
     random.shuffle(calls)
@@ -102,15 +111,19 @@ def made(manager: model.Manager, call: Call) -> model.Outcome:
     return calls[call.name](*call.values)
 
 
+# A call, the number that answers it, and the records.
+Entry = Tuple[Call, int, List[model.Record]]
+
+
 class Life(NamedTuple):
     """A life since the start: the sheet, each call with its number and records, and the ticks with room that were refused."""
 
     networks: List[Settings]
-    entries: List[Tuple[Call, int, List[model.Record]]]
+    entries: List[Entry]
     refused_with_room: List[int]
 
 
-def entry_of(manager: model.Manager, call: Call) -> Tuple[Call, int, List[model.Record]]:
+def entry_of(manager: model.Manager, call: Call) -> Entry:
     outcome = made(manager, call)
     return call, outcome.answer, outcome.records
 
@@ -127,16 +140,14 @@ def chips_beside(networks: List[Settings], controller: int) -> List[int]:
     return [chip for network in networks if controller in network.controllers for chip in network.controllers if chip != controller]
 
 
-def random_life(random: Random) -> Life:
-    """The neighbours answer mostly, and stray calls come in between; a full network is stalled now and then, and a bus-off is often reported by
-    every chip of its network."""
-    networks = random_sheet(random)
-    manager = started(networks)
-    entries: List[Tuple[Call, int, List[model.Record]]] = []
+def random_entries(random: Random, networks: List[Settings], manager: model.Manager, most: int) -> Tuple[List[Entry], List[int]]:
+    """So many calls: the neighbours answer mostly, and stray calls come in between; a full network is stalled now and then, and a bus-off is often
+    reported by every chip of its network. With them the numbers of the ticks with room that were refused."""
+    entries: List[Entry] = []
     refused_with_room = []
     coming = [Call(REQUEST, (network.handle, Mode.FULL)) for network in networks if random.random() < 0.9]
     calm = random.random() < 0.5
-    while len(entries) < CALLS_OF_A_HISTORY:
+    while len(entries) < most:
         call = coming.pop(0) if coming else Call(TICK, (), FULL_ROOM)
         if random.random() < 0.03:
             call = Call(REQUEST, (networks[0].handle, Mode.FULL))
@@ -154,80 +165,153 @@ def random_life(random: Random) -> Life:
             if number != model.ACCEPTED:
                 refused_with_room.append(len(entries))
             coming = answers_to(random, records)
+    return entries, refused_with_room
+
+
+def random_life(random: Random) -> Life:
+    networks = random_sheet(random)
+    return Life(networks, *random_entries(random, networks, started(networks), CALLS_OF_A_HISTORY))
+
+
+def kind_answers(random: Random, records: List[model.Record]) -> List[Call]:
+    """The last answer to each request is ok; before it another may say ok, not ok, or a value that there is not."""
+    early = [call for record in records for ok in (NOT_OK, OK, Limit.OK + 1) for call in answer_to(record, ok) if random.random() < 0.15]
+    last = [call for record in records for call in answer_to(record)]
+    random.shuffle(early)
+    random.shuffle(last)
+    return early + last
+
+
+def harmless_call(random: Random, network: model.NetworkRecord) -> Call:
+    """A call that does good ticks no harm: what is wanted once more, a mode that there is not, a bus-off or a stall that is refused, what nobody
+    asked for, a tick without room."""
+    settings = network.settings
+    controller = random.choice(settings.controllers)
+    transceiver = Limit.TRANSCEIVER_ID if settings.transceiver is None else settings.transceiver
+    unasked = [mode for mode in range(Limit.MODE + 2) if mode != model.CONTROLLER_MODE_OF_STEP.get(network.step)]
+    return random.choice(
+        (
+            Call(REQUEST, (settings.handle, random.choice((network.wanted, Limit.MODE + 1)))),
+            Call(BUS_OFF, (controller,), Limit.BUS_OFF_BYTES - 1 if model.takes_bus_off(network) else FULL_ROOM),
+            Call(STALL, (settings.handle,), Limit.STALL_BYTES - 1 if model.takes_stall(network) else FULL_ROOM),
+            Call(ANSWER, (controller, random.choice(unasked), random.choice((NOT_OK, OK)))),
+            Call(REPORT, (transceiver, random.randint(0, Limit.MODE + 1))),
+            Call(random.choice((CLEARED, CHECKED)), (transceiver,)),
+            Call(TICK, (), 0),
+        )
+    )
+
+
+def among_harmless_calls(random: Random, manager: model.Manager, calls: List[Call]) -> List[Entry]:
+    """These calls, and in between some that do the first network no harm."""
+    entries = []
+    for call in calls:
+        if random.random() < 0.1:
+            entries.append(entry_of(manager, harmless_call(random, manager.networks[0])))
+        entries.append(entry_of(manager, call))
+    return entries
+
+
+def kind_entries(random: Random, networks: List[Settings], manager: model.Manager, mode: int, count: int) -> List[Entry]:
+    """So many ticks at which this mode of the first network is wanted, and to which its neighbours are kind; those of the other networks may do
+    anything."""
+    entries = among_harmless_calls(random, manager, [Call(REQUEST, (networks[0].handle, mode))])
+    for _ in range(count):
+        entries += among_harmless_calls(random, manager, [Call(TICK, (), FULL_ROOM)])
+        records = entries[-1][2]
+        own = own_records(networks[0], records)
+        coming = answers_to(random, [record for record in records if record not in own]) + kind_answers(random, own)
+        if networks[1:] and random.random() < 0.1:
+            coming.append(stray_call(random, networks[1:]))
+        entries += among_harmless_calls(random, manager, coming)
+    return entries
+
+
+def kind_life(random: Random) -> Life:
+    """First nothing, anything, or the way up; then no may be wanted for a while; then come as many good ticks as are enough from anywhere, or one
+    more."""
+    networks = random_sheet(random, range(1, Limit.CONTROLLERS_OF_A_NETWORK + 1))
+    manager = started(networks)
+    entries: List[Entry] = []
+    refused_with_room: List[int] = []
+    first = random.random()
+    if first < 0.4:
+        entries, refused_with_room = random_entries(random, networks, manager, random.randint(1, 30))
+    elif first < 0.6:
+        entries = kind_entries(random, networks, manager, Mode.FULL, ticks_from_start(networks[0]))
+    if random.random() < 0.5:
+        entries += kind_entries(random, networks, manager, Mode.NO, random.randint(1, 6))
+    entries += kind_entries(random, networks, manager, Mode.FULL, most_ticks(networks[0]) + random.randint(0, 1))
     return Life(networks, entries, refused_with_room)
 
 
-# The one network of the lives below: the short delay is 1, the long one 5.
+# The one network of the lives below: the short delay is 1, the long one 5. Then the same with a transceiver, and with partial networking.
 LONE = Settings(handle=1, controllers=[0], short_delay=1, long_delay=5, ensure_time=9, threshold=1)
+FITTED = replace(LONE, transceiver=0)
+PARTIAL = replace(FITTED, partial_networking=1)
+WANTS = {mode: [Call(REQUEST, (LONE.handle, mode))] for mode in (Mode.NO, Mode.SILENT, Mode.FULL)}
+FALLS = [Call(BUS_OFF, (0,), FULL_ROOM)]
+STALLS = [Call(STALL, (LONE.handle,), FULL_ROOM)]
 
 
-def prompt_life(after_tick: Dict[int, List[Call]], ticks: int, network: Settings = LONE) -> Life:
-    """A life of one network whose neighbours answer every request with ok at once; after the tick of a number come these calls."""
+def prompt_life(after_tick: Dict[int, List[Call]], count: int, network: Settings = LONE, unanswered: Sequence[int] = ()) -> Life:
+    """A life of one network with so many ticks, whose neighbours answer every request with ok at once, but for those of the ticks that are named;
+    after the tick of a number come these calls."""
     manager = started([network])
-    entries: List[Tuple[Call, int, List[model.Record]]] = []
-    for number in range(ticks + 1):
+    entries: List[Entry] = []
+    for number in range(count + 1):
         coming = after_tick.get(number, [])
         if number > 0:
             entries.append(entry_of(manager, Call(TICK, (), FULL_ROOM)))
-            asked = [target_and_mode[1:] for target_and_mode in entries[-1][2] if target_and_mode[0] == Kind.CONTROLLER_MODE]
-            coming = [Call(ANSWER, (target, mode, 1)) for target, mode in asked] + coming
+        if number > 0 and number not in unanswered:
+            coming = [call for record in entries[-1][2] for call in answer_to(record)] + coming
         entries += [entry_of(manager, call) for call in coming]
     return Life([network], entries, [])
 
 
 def there_and_back() -> Life:
     """Up; a bus-off; full again; silent and back to full; a second bus-off, which is above the threshold."""
-    wants = {mode: [Call(REQUEST, (1, mode))] for mode in (Mode.SILENT, Mode.FULL)}
-    falls = [Call(BUS_OFF, (0,), FULL_ROOM)]
-    return prompt_life({0: wants[Mode.FULL], 7: falls, 11: wants[Mode.SILENT], 12: wants[Mode.FULL], 14: falls}, 24)
+    return prompt_life({0: WANTS[Mode.FULL], 7: FALLS, 11: WANTS[Mode.SILENT], 12: WANTS[Mode.FULL], 14: FALLS}, 24)
 
 
 def stalls_and_falls() -> Life:
     """Up; three stalls, each when full is told again; then a bus-off, the first, which brings the short delay; a stall; a second bus-off."""
-    stalls = [Call(STALL, (1,), FULL_ROOM)]
-    falls = [Call(BUS_OFF, (0,), FULL_ROOM)]
-    wants = [Call(REQUEST, (1, Mode.FULL))]
-    return prompt_life({0: wants, 7: stalls, 10: stalls, 13: stalls, 16: falls, 20: stalls, 23: falls}, 34)
+    return prompt_life({0: WANTS[Mode.FULL], 7: STALLS, 10: STALLS, 13: STALLS, 16: FALLS, 20: STALLS, 23: FALLS}, 34)
 
 
 def stalls_and_wishes() -> Life:
     """Up; a stall, in which silent is wanted; full again; passed and a stall after it; silent wanted before a stall; a stall in silent."""
-    wants = {mode: [Call(REQUEST, (1, mode))] for mode in (Mode.NO, Mode.SILENT, Mode.FULL)}
-    stalls = [Call(STALL, (1,), FULL_ROOM)]
-    calls = {0: wants[Mode.FULL], 7: stalls + wants[Mode.SILENT], 11: stalls + wants[Mode.FULL], 22: stalls, 25: wants[Mode.SILENT] + stalls}
-    return prompt_life({**calls, 29: stalls + wants[Mode.FULL], 31: stalls, 32: wants[Mode.NO]}, 40)
+    calls = {0: WANTS[Mode.FULL], 7: STALLS + WANTS[Mode.SILENT], 11: STALLS + WANTS[Mode.FULL], 22: STALLS, 25: WANTS[Mode.SILENT] + STALLS}
+    return prompt_life({**calls, 29: STALLS + WANTS[Mode.FULL], 31: STALLS, 32: WANTS[Mode.NO]}, 40)
 
 
 def short_stall() -> Life:
     """Up; stalls with too few bytes, and an answer that nobody asked for; then a stall, and answers before they are asked for."""
     early = [Call(ANSWER, (0, mode, 1)) for mode in (0, 1)]
     short = [Call(STALL, (1,), lent) for lent in range(Limit.STALL_BYTES)]
-    return prompt_life({0: [Call(REQUEST, (1, Mode.FULL))], 7: short + early + [Call(STALL, (1,), Limit.STALL_BYTES)] + early}, 14)
+    return prompt_life({0: WANTS[Mode.FULL], 7: short + early + [Call(STALL, (1,), Limit.STALL_BYTES)] + early}, 14)
 
 
 def two_chips() -> Life:
     """Up; one fault that both chips report, at once and after the tick that asks; full, and passed. A fault, and a second one in step 7; passed.
     A fault, a shutdown in step 6, and up again, where a fault is the second. Two controllers."""
-    wants = {mode: [Call(REQUEST, (1, mode))] for mode in (Mode.NO, Mode.FULL)}
     first, other = [Call(BUS_OFF, (0,), FULL_ROOM)], [Call(BUS_OFF, (1,), FULL_ROOM)]
-    one = {0: wants[Mode.FULL], 7: first + other, 8: other}
+    one = {0: WANTS[Mode.FULL], 7: first + other, 8: other}
     two = {21: first + other, 23: other + first}
-    apart = {40: other + first + wants[Mode.NO], 43: wants[Mode.FULL], 47: first, 48: other}
+    apart = {40: other + first + WANTS[Mode.NO], 43: WANTS[Mode.FULL], 47: first, 48: other}
     return prompt_life({**one, **two, **apart}, 57, replace(LONE, controllers=[0, 1]))
 
 
 def faults_in_silent() -> Life:
     """Up; a fault; full again, then silent, and there a second fault; full is wanted again."""
-    wants = {mode: [Call(REQUEST, (1, mode))] for mode in (Mode.SILENT, Mode.FULL)}
     fault = [Call(BUS_OFF, (1,), FULL_ROOM), Call(BUS_OFF, (0,), FULL_ROOM)]
-    calls = {0: wants[Mode.FULL], 7: fault, 10: wants[Mode.SILENT], 12: fault + wants[Mode.FULL]}
+    calls = {0: WANTS[Mode.FULL], 7: fault, 10: WANTS[Mode.SILENT], 12: fault + WANTS[Mode.FULL]}
     return prompt_life(calls, 20, replace(LONE, controllers=[0, 1]))
 
 
 def two_faults(relation: Relation) -> Life:
     """Up; a bus-off; full again, and a second one before passed. With the threshold 2 the second one comes up to it and does not exceed it."""
-    falls = [Call(BUS_OFF, (0,), FULL_ROOM)]
-    return prompt_life({0: [Call(REQUEST, (1, Mode.FULL))], 7: falls, 12: falls}, 22, replace(LONE, threshold=2, relation=relation))
+    return prompt_life({0: WANTS[Mode.FULL], 7: FALLS, 12: FALLS}, 22, replace(LONE, threshold=2, relation=relation))
 
 
 def at_the_threshold() -> Life:
@@ -238,26 +322,120 @@ def below_and_at_the_threshold() -> Life:
     return two_faults(Relation.ABOVE)
 
 
+def troubles_on_the_way() -> Life:
+    """A not-ok before the ok; up; bus-offs and stalls in each step of a recovery and of a reset, with answers that come too early; silent asked for
+    in silent, and a mode that there is not."""
+    stops = [Call(ANSWER, (0, ControllerMode.STOPPED, ok)) for ok in (NOT_OK, OK)]
+    runs = [Call(ANSWER, (0, ControllerMode.STARTED, OK))]
+    recovery = {7: FALLS + runs + STALLS, 8: FALLS + runs + STALLS, 10: STALLS, 12: STALLS + FALLS + STALLS}
+    resets = {22: STALLS + STALLS, 23: STALLS, 24: STALLS}
+    silent = {20: WANTS[Mode.SILENT], 21: WANTS[Mode.SILENT] + [Call(REQUEST, (LONE.handle, Limit.MODE + 1))] + WANTS[Mode.FULL]}
+    return prompt_life({0: WANTS[Mode.FULL], 1: stops, **recovery, **silent, **resets}, 26)
+
+
+def down_and_up(network: Settings) -> Life:
+    """Up; shut down, and full is wanted again before the network rests; shut down once more, a while at rest, and up from there."""
+    return prompt_life({0: WANTS[Mode.FULL], 12: WANTS[Mode.NO], 13: WANTS[Mode.FULL], 25: WANTS[Mode.NO], 33: WANTS[Mode.FULL]}, 38, network)
+
+
+def down_and_up_without_a_transceiver() -> Life:
+    return down_and_up(LONE)
+
+
+def down_and_up_with_a_transceiver() -> Life:
+    return down_and_up(FITTED)
+
+
+def down_and_up_with_partial_networking() -> Life:
+    return down_and_up(PARTIAL)
+
+
+def silent_on_the_way() -> Life:
+    """Partial networking; silent is asked for after every tick until the network is up, and again on its way down."""
+    coming_up = {number: WANTS[Mode.SILENT] for number in range(1, 10)}
+    going_down = {number: WANTS[Mode.SILENT] for number in range(12, 18)}
+    return prompt_life({0: WANTS[Mode.FULL], **coming_up, 11: WANTS[Mode.NO], **going_down}, 18, PARTIAL)
+
+
+class Slow(NamedTuple):
+    """A life that needs as many good ticks as any: its network, what comes after the tick of a number, the ticks that nobody answers, the last tick
+    before those that are good, and how many of those there are."""
+
+    network: Settings
+    after_tick: Dict[int, List[Call]]
+    unanswered: Sequence[int]
+    last: int
+    good: int
+
+    def life(self) -> Life:
+        return prompt_life({0: WANTS[Mode.FULL], **self.after_tick}, self.last + self.good, self.network, self.unanswered)
+
+
+REFUSES_SLEEP = [Call(ANSWER, (0, ControllerMode.SLEEP, NOT_OK))]
+SLOWEST: Dict[str, Slow] = {
+    # where the long delay is 2, no delay is long enough to count
+    "stop is not answered": Slow(replace(LONE, long_delay=2), {}, (1,), 1, 6),
+    "stop is not answered, with a transceiver": Slow(replace(FITTED, long_delay=2), {}, (1,), 1, 8),
+    "sleep is refused": Slow(replace(PARTIAL, long_delay=2), {4: REFUSES_SLEEP}, (4,), 4, 11),
+    "sleep is refused, and the check is not answered": Slow(replace(PARTIAL, long_delay=2), {4: REFUSES_SLEEP}, (4, 5), 5, 11),
+    "a second bus-off": Slow(replace(LONE, long_delay=10), {7: FALLS, 10: FALLS}, (), 10, 12),
+    "a first bus-off, and the threshold is 0": Slow(replace(PARTIAL, long_delay=12, threshold=0), {11: FALLS}, (), 11, 14),
+    "a first bus-off, and the short delay is longer": Slow(replace(LONE, short_delay=10), {7: FALLS}, (), 7, 12),
+}
+
+
+def sleep_refused() -> Life:
+    return SLOWEST["sleep is refused"].life()
+
+
+def history_of(life: Life, network: Settings) -> History:
+    return [view(network, *entry) for entry in life.entries]
+
+
 def faults(life: Life) -> Set[str]:
     """The names of the statements that a life breaks first, for any of its networks."""
-    networks, entries, refused_with_room = life
-    names: Set[str] = {"tick-accepted"} if refused_with_room else set()
-    for network in networks:
-        history: History = [view(network, *entry) for entry in entries]
-        found = broken(network, history)
+    names: Set[str] = {"tick-accepted"} if life.refused_with_room else set()
+    for network in life.networks:
+        found = broken(network, history_of(life, network))
         if found:
             names.update(found[1])
     return names
 
 
+def all_faults(life: Life) -> Set[str]:
+    """The names of all statements that a life ever breaks, for any of its networks."""
+    names: Set[str] = {"tick-accepted"} if life.refused_with_room else set()
+    return names.union(*(ever_broken(network, history_of(life, network)) for network in life.networks))
+
+
+def conclusions(network: Settings, history: History) -> Set[str]:
+    """The statements on good ticks whose conclusion a history comes to: it has the tick that they speak of, and before these ticks full was not told.
+    And whether from the start full was wanted only later."""
+    words = Words(network)
+    found = set()
+    starts = words.good_starts(history)
+    if any(ticks(history[start:]) >= ticks_from_rest(network) and words.at_rest(history[:start]) for start in starts):
+        found.add("from-rest")
+    if words.good_ticks(ticks_to_rest(network) + 1, history, []) and ticks(history) >= ticks_from_start(network):
+        found.add("from-start")
+        if not words.good_ticks(1, history, []):
+            found.add("wanted-late")
+    if ticks(history[starts[-1]:]) >= most_ticks(network) and words.told(history[:starts[-1]]) != Mode.FULL:
+        found.add("never-stuck")
+    return found
+
+
 def miscounted(life: Life) -> List[str]:
-    """Where the words of a history and the model's records part: restarting and step 6, the bus-offs that count and the count."""
+    """Where the words of a history and the model's records part: at rest and step 0, restarting and step 6, the bus-offs that count and the
+    count."""
     manager = started(life.networks)
     found = []
     for number, (call, _, _) in enumerate(life.entries, 1):
         made(manager, call)
         for network, record in zip(life.networks, manager.networks):
             words, history = Words(network), [view(network, *entry) for entry in life.entries[:number]]
+            if words.at_rest(history) != (record.step == Step.NO_COMMUNICATION):
+                found.append(f"entry {number}: at rest")
             if words.restarting(history) != (record.step == Step.RESTARTING):
                 found.append(f"entry {number}: restarting")
             if min(words.falls(history), Limit.BUS_OFF_COUNT) != record.bus_off_count:
@@ -288,6 +466,12 @@ real_takes_stall = model.takes_stall
 real_resetting = model.next_step_resetting
 real_manager_stall = model.Manager.stall
 real_read = model.Manager.read
+real_tick_network = model.tick_network
+real_from_rest = model.next_step_from_no_communication
+real_down = model.next_step_down
+real_coming_up = model.next_step_coming_up
+real_is_done = model.is_done
+real_takes_transceiver_mode = model.takes_transceiver_mode
 
 
 def quiet_bus_off(network):
@@ -619,6 +803,83 @@ def rule_of_the_first_for_all(self, data):
     return outcome
 
 
+def asks_once_more_in(step):
+    """When all is answered in this step, it asks once more before it goes on."""
+    def box(network):
+        more = network.step == step and network.wanted == Mode.FULL and real_is_done(network) and not getattr(network, "asked_more", False)
+        network.asked_more = more
+        return model.ask(network) if more else real_tick_network(network)
+    return box
+
+
+def idles_at_rest(network):
+    """The first tick at which full is wanted at rest does nothing."""
+    idle = network.step == Step.NO_COMMUNICATION and network.wanted == Mode.FULL and not getattr(network, "idled", False)
+    network.idled = idle
+    return [] if idle else real_tick_network(network)
+
+
+def one_request_twice_in(step):
+    """In this step the first request is handed out twice."""
+    def box(network):
+        records = real_requests(network)
+        return records + records[:1] if network.step == step else records
+    return box
+
+
+def full_without_the_mode_manager(network):
+    """The mode manager does not hear of full."""
+    return [record for record in real_enter_full(network) if record[0] != Kind.MODE_MANAGER]
+
+
+def never_leaves(step):
+    return lambda network: model.stay(network) if network.step == step else real_tick_network(network)
+
+
+def once_it_was_full(box):
+    """Ticks as this box makes them, of a network that was full before."""
+    def tick(network):
+        was_full = getattr(network, "was_full", False)
+        records = box(network) if was_full else real_tick_network(network)
+        network.was_full = was_full or network.told == Mode.FULL
+        return records
+    return tick
+
+
+def rests_without_standby(step, done, outfit):
+    """The transceiver is not asked to stand by."""
+    return real_down(step, done, Outfit.NO_TRANSCEIVER)
+
+
+def straight_to_stopped(wanted, outfit):
+    """From rest the controllers are asked to stop at once, with a transceiver too."""
+    return real_from_rest(wanted, Outfit.NO_TRANSCEIVER)
+
+
+def asks_both(network):
+    return network.step == Step.CONTROLLERS_STOPPED and network.settings.transceiver is not None
+
+
+def normal_and_stopped(network):
+    """With the controllers the transceiver is asked."""
+    normal = [(Kind.TRANSCEIVER_MODE, network.settings.transceiver, TransceiverMode.NORMAL)]
+    return real_requests(network) + (normal if asks_both(network) else [])
+
+
+def normal_taken_while_stopping(network, mode):
+    taken = asks_both(network) and network.asked and mode == TransceiverMode.NORMAL
+    return taken or real_takes_transceiver_mode(network, mode)
+
+
+def done_with_both(network):
+    return real_is_done(network) and (network.reported or not asks_both(network))
+
+
+def starts_without_stopping(step, done):
+    """From the transceiver straight to the request to start."""
+    return real_coming_up(Step.CONTROLLERS_STOPPED if step == Step.TRANSCEIVER_NORMAL else step, done)
+
+
 WRONG_BOXES: Dict[str, Tuple[Dict[str, object], Dict[str, object], Set[str]]] = {
     # what the box does: functions of the model, methods of its manager, and the statements of which at least one catches it
     "no bus-off is said and no delay kept": (
@@ -691,22 +952,97 @@ WRONG_BOXES: Dict[str, Tuple[Dict[str, object], Dict[str, object], Set[str]]] = 
     "the two rules swapped": ({"brings_long_delay": rules_swapped}, {}, {"late-answers"}),
     "the long delay one below the threshold": ({"brings_long_delay": long_one_below_the_threshold}, {}, {"told-exactly"}),
     "field 07 of the first network holds for all": ({}, {"read": rule_of_the_first_for_all}, {"told-exactly"}),
+    "stop is asked once more, coming up": ({"tick_network": asks_once_more_in(Step.CONTROLLERS_STOPPED)}, {}, {"from-rest"}),
+    "normal is asked once more": ({"tick_network": asks_once_more_in(Step.TRANSCEIVER_NORMAL)}, {}, {"from-rest"}),
+    "stop is asked once more, going down": ({"tick_network": asks_once_more_in(Step.DOWN_STOPPED)}, {}, {"to-rest"}),
+    "the check after a refusal is asked once more": ({"tick_network": asks_once_more_in(Step.CHECK_WAKE_AGAIN)}, {}, {"never-stuck"}),
+    "a tick is idle at rest": ({"tick_network": idles_at_rest}, {}, {"from-rest"}),
+    "a tick is idle at rest once full was told": ({"tick_network": once_it_was_full(idles_at_rest)}, {}, {"from-rest"}),
+    "a controller is asked twice to stop, coming up": (
+        {"requests_of_step": one_request_twice_in(Step.CONTROLLERS_STOPPED)}, {}, {"records-from-rest", "records-from-start"},
+    ),
+    "a transceiver is asked twice for normal": (
+        {"requests_of_step": one_request_twice_in(Step.TRANSCEIVER_NORMAL)}, {}, {"records-from-rest", "records-from-start"},
+    ),
+    "a controller is asked twice to sleep": ({"requests_of_step": one_request_twice_in(Step.CONTROLLERS_SLEEP)}, {}, {"records-from-start"}),
+    "the mode manager does not hear of full": ({"enter_full": full_without_the_mode_manager}, {}, {"records-from-rest"}),
+    "step 13 is never left": ({"tick_network": never_leaves(Step.CHECK_WAKE)}, {}, {"to-rest"}),
+    "step 13 is never left once full was told": ({"tick_network": once_it_was_full(never_leaves(Step.CHECK_WAKE))}, {}, {"never-stuck"}),
+    "step 14 is never left": ({"tick_network": never_leaves(Step.CHECK_WAKE_AGAIN)}, {}, {"never-stuck"}),
+    "no is told before standby": ({"next_step_down": rests_without_standby}, {}, {"to-rest"}),
+    "transceiver and controllers are asked at once": (
+        {
+            "next_step_from_no_communication": straight_to_stopped, "requests_of_step": normal_and_stopped,
+            "takes_transceiver_mode": normal_taken_while_stopping, "is_done": done_with_both,
+        },
+        {}, {"from-rest", "from-start"},
+    ),
+    "start is asked without stop": ({"next_step_coming_up": starts_without_stopping}, {}, {"start-after-stop"}),
 }
 # These are tried first: random lives show some of it late.
 ARRANGED_LIVES = (
     there_and_back, stalls_and_falls, stalls_and_wishes, short_stall, two_chips, faults_in_silent, at_the_threshold, below_and_at_the_threshold,
+    troubles_on_the_way, down_and_up_without_a_transceiver, down_and_up_with_a_transceiver, down_and_up_with_partial_networking,
+    silent_on_the_way, sleep_refused,
 )
+
+
+# All that is false of a box in one life, and not only what is false first.
+BROKEN_IN_ONE_LIFE: Dict[str, Tuple[Callable[[], Life], Set[str]]] = {
+    "stop is asked once more, coming up": (
+        down_and_up_without_a_transceiver, {"from-rest", "records-from-rest", "from-start", "records-from-start"},
+    ),
+    "normal is asked once more": (
+        down_and_up_with_a_transceiver, {"from-rest", "records-from-rest", "from-start", "records-from-start", "never-stuck"},
+    ),
+    "stop is asked once more, going down": (
+        down_and_up_with_a_transceiver, {"to-rest", "from-start", "records-from-start", "never-stuck"},
+    ),
+    "the check after a refusal is asked once more": (sleep_refused, {"never-stuck"}),
+    "a tick is idle at rest": (down_and_up_without_a_transceiver, {"from-rest", "records-from-rest", "from-start", "records-from-start"}),
+    "a tick is idle at rest once full was told": (down_and_up_without_a_transceiver, {"from-rest", "records-from-rest"}),
+    "a controller is asked twice to stop, coming up": (down_and_up_with_partial_networking, {"records-from-rest", "records-from-start"}),
+    "a transceiver is asked twice for normal": (down_and_up_with_a_transceiver, {"records-from-rest", "records-from-start"}),
+    "a controller is asked twice to sleep": (down_and_up_with_a_transceiver, {"records-from-start"}),
+    "the mode manager does not hear of full": (down_and_up_with_a_transceiver, {"records-from-rest", "records-from-start"}),
+    "step 13 is never left": (down_and_up_with_partial_networking, {"to-rest", "from-start", "records-from-start", "never-stuck"}),
+    "step 13 is never left once full was told": (down_and_up_with_partial_networking, {"never-stuck"}),
+    "step 14 is never left": (sleep_refused, {"never-stuck"}),
+    "no is told before standby": (down_and_up_with_a_transceiver, {"to-rest", "from-start", "records-from-start"}),
+    "transceiver and controllers are asked at once": (down_and_up_with_partial_networking, {"from-rest", "from-start"}),
+    "start is asked without stop": (
+        down_and_up_with_a_transceiver, {"start-after-stop", "from-rest", "records-from-rest", "from-start", "records-from-start"},
+    ),
+}
+
+
+def many_lives() -> Iterator[Life]:
+    """Arranged ones, random ones and kind ones."""
+    for life in ARRANGED_LIVES:
+        yield life()
+    for seed in range(HISTORIES // 2):
+        yield random_life(Random(seed))
+        yield kind_life(Random(seed))
+
+
+@contextmanager
+def replaced(functions: Dict[str, object], methods: Dict[str, object]) -> Iterator[None]:
+    """The model with these functions, and its manager with these methods."""
+    with ExitStack() as stack:
+        for owner, replacements in ((model, functions), (model.Manager, methods)):
+            for name, replacement in replacements.items():
+                stack.enter_context(patch.object(owner, name, replacement))
+        yield
 
 
 def caught(functions: Dict[str, object], methods: Dict[str, object], wanted: Set[str]) -> Optional[Set[str]]:
     """The first set of broken statements that has one of the wanted, over lives of the box; None where there is none."""
-    with patch.multiple(model, **functions) if functions else patch.object(model, "ACCEPTED", model.ACCEPTED):
-        with patch.multiple(model.Manager, **methods) if methods else patch.object(model, "ACCEPTED", model.ACCEPTED):
-            for number in range(MOST_HISTORIES):
-                arranged = number < len(ARRANGED_LIVES)
-                found = faults(ARRANGED_LIVES[number]() if arranged else random_life(Random(number)))
-                if found & wanted:
-                    return found
+    with replaced(functions, methods):
+        for number in range(MOST_HISTORIES):
+            arranged = number < len(ARRANGED_LIVES)
+            found = faults(ARRANGED_LIVES[number]() if arranged else random_life(Random(number)))
+            if found & wanted:
+                return found
     return None
 
 
@@ -720,12 +1056,16 @@ class Promises(unittest.TestCase):
     def test_the_model_keeps_all(self):
         for seed in range(HISTORIES):
             self.assertEqual(faults(random_life(Random(seed))), set(), f"seed {seed}")
+        for seed in range(KIND_HISTORIES):
+            self.assertEqual(faults(kind_life(Random(seed))), set(), f"seed {seed}, kind")
         for life in ARRANGED_LIVES:
             self.assertEqual(faults(life()), set(), life.__name__)
 
-    def test_the_words_of_the_count_are_the_records(self):
+    def test_the_words_are_those_of_the_records(self):
         for seed in range(HISTORIES):
             self.assertEqual(miscounted(random_life(Random(seed))), [], f"seed {seed}")
+        for seed in range(KIND_HISTORIES // 2):
+            self.assertEqual(miscounted(kind_life(Random(seed))), [], f"seed {seed}, kind")
         for life in ARRANGED_LIVES:
             self.assertEqual(miscounted(life()), [], life.__name__)
 
@@ -734,10 +1074,60 @@ class Promises(unittest.TestCase):
             with patch.object(model, "bus_off_network", box):
                 self.assertNotEqual([found for life in ARRANGED_LIVES for found in miscounted(life())], [], box)
 
+    def test_a_wrong_rest_is_seen(self):
+        with patch.object(model, "tick_network", idles_at_rest):
+            found = miscounted(down_and_up_without_a_transceiver())
+        self.assertEqual([fault.split(": ")[1] for fault in found], ["at rest"] * 3)
+
+    def test_good_parts_are_found_from_the_end(self):
+        """The places that are found backwards are those from which on the ticks are good, each looked at by itself."""
+        for seed in range(KIND_HISTORIES // 2):
+            for life in (random_life(Random(seed)), kind_life(Random(seed))):
+                words, history = Words(life.networks[0]), history_of(life, life.networks[0])
+                good = [place for place in range(len(history), -1, -1) if words.good_ticks(1, history[place:], history[:place])]
+                self.assertEqual(words.good_starts(history), good, f"seed {seed}")
+
+    def test_the_conclusions_are_come_to(self):
+        """Of kind lives many come to the tick that a statement on good ticks speaks of, with every outfit."""
+        met = Counter()
+        for seed in range(KIND_HISTORIES):
+            life = kind_life(Random(seed))
+            met.update((model.outfit_of(life.networks[0]), name) for name in conclusions(life.networks[0], history_of(life, life.networks[0])))
+        for outfit in model.ALL_OUTFITS:
+            for name in ("from-rest", "from-start", "never-stuck"):
+                self.assertGreater(met[outfit, name], KIND_HISTORIES // 12, (outfit, name))
+            self.assertGreater(met[outfit, "wanted-late"], 0)
+
+    def test_the_bound_is_reached(self):
+        """Each of these lives needs all the good ticks that are allowed from anywhere: full is told on the last of them, and not before."""
+        for name, slow in SLOWEST.items():
+            with self.subTest(name):
+                words, history = Words(slow.network), history_of(slow.life(), slow.network)
+                places = [place for place, entry in enumerate(history) if ticked(entry)]
+                first, last = places[-slow.good], places[-1]
+                self.assertTrue(words.good_ticks(1, history[first:], history[:first]))
+                self.assertNotEqual(words.told(history[:last]), Mode.FULL)
+                self.assertEqual(words.told(history), Mode.FULL)
+                self.assertEqual(most_ticks(slow.network), slow.good)
+
     def test_wrong_boxes_are_caught(self):
         for name, (functions, methods, wanted) in WRONG_BOXES.items():
             with self.subTest(name):
                 self.assertIsNotNone(caught(functions, methods, wanted), name)
+
+    def test_what_a_box_breaks_in_one_life(self):
+        for name, (life, statements) in BROKEN_IN_ONE_LIFE.items():
+            functions, methods, _ = WRONG_BOXES[name]
+            with self.subTest(name), replaced(functions, methods):
+                self.assertEqual(all_faults(life()), statements)
+
+    def test_stuck_and_nothing_else(self):
+        """A box that waits for ever in step 13, but only once it was full: over many lives, kind ones among them, it breaks one statement alone."""
+        functions, methods, _ = WRONG_BOXES["step 13 is never left once full was told"]
+        with replaced(functions, methods):
+            found = [all_faults(life) for life in many_lives()]
+        self.assertEqual(set().union(*found), {"never-stuck"})
+        self.assertGreater(sum(map(bool, found)), 1)
 
     def test_full_is_told_in_many_histories(self):
         told = 0

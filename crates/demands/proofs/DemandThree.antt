@@ -22,15 +22,14 @@ use Rattle.network_demands.proofs.Counted.{restarting-means, count-follows, bus
 use Rattle.network_demands.proofs.OneFault.{counted-once}
 use Rattle.network_demands.proofs.Told.{told-exactly, told-no, first-sentence}
 use Rattle.network_demands.proofs.Second.{late-answers, late-after-stall, second-sentence}
-use Rattle.network_demands.proofs.Third.{third-sentence, said-from}
-use Rattle.network_demands.proofs.ThirdTick.{on-the-third-tick, said-from-the-third}
+use Rattle.network_demands.proofs.Third.{said-from, on-just-that-tick, said-from-the-third, on-the-third-tick}
 use Rattle.demands.specs.View.{viewOf, viewsOf}
 use Rattle.demands.specs.Demands.{Begun, Demand3, Counting}
 use Rattle.demands.proofs.Parts.{own-slot}
 use Rattle.demands.proofs.Follow.{once, in-use, same-network, same-needs, follow, sound, ran-since, in-range, distinct}
 
 -- ---- the views of a history that is split
-views-append : (n : Network) (s h : History) → viewsOf n (s ++ h) ≡ viewsOf n s ++ viewsOf n h
+pub views-append : (n : Network) (s h : History) → viewsOf n (s ++ h) ≡ viewsOf n s ++ viewsOf n h
 views-append n [] h = refl
 views-append n (e ∷ s) h = ap (λ (l : _). viewOf n e ∷ l) (views-append n s h)
 
@@ -81,11 +80,13 @@ module _ (m₀ : Manager) (b₀ : Begun m₀) (i : ℕ) (h₀ : i < length (netw
     delayed = λ m s b h r. second-sentence n range apart (viewsOf n s) (viewOf n b) (viewsOf n h) (split m s b h r);
     late-answers = λ m s b h r. late-answers n range apart (viewsOf n s) (viewOf n b) (viewsOf n h) (split m s b h r);
     ticks = λ m t h s room q l. rw (q, last-ticked m₀ m (t ∷ h) b₀ s t h refl room q (rw (tick-needs-paper m₀ (sound m₀ b₀)) l)) refl;
-    on-just-that-tick = λ m t s b h r. third-sentence n range apart (viewOf n t) (viewsOf n s) (viewOf n b) (viewsOf n h) (split-last m t s b h r);
-    said-from = λ m s b h r v i. said-from n range apart (viewOf n b) (viewsOf n h) v (viewsOf n s) (split m s b h r) v i;
+    on-just-that-tick = λ m t s b h r u.
+        on-just-that-tick n range apart (viewOf n b) (viewsOf n h) u (viewOf n t) (viewsOf n s) (split-last m t s b h r);
+    said-from = λ m s b h r u. said-from n range apart (viewOf n b) (viewsOf n h) u (viewsOf n s) (split m s b h r);
     late-after-stall = λ m s b h r. late-after-stall n range apart (viewsOf n s) (viewOf n b) (viewsOf n h) (split m s b h r);
-    on-the-third-tick = λ m t s b h r. on-the-third-tick n range apart (viewOf n t) (viewsOf n s) (viewOf n b) (viewsOf n h) (split-last m t s b h r);
-    said-from-the-third = λ m s b h r. said-from-the-third n range apart (viewOf n b) (viewsOf n h) (viewsOf n s) (split m s b h r);
+    on-the-third-tick = λ m t s b h r x.
+        on-the-third-tick n range apart (viewOf n b) (viewsOf n h) x (viewOf n t) (viewsOf n s) (split-last m t s b h r);
+    said-from-the-third = λ m s b h r x. said-from-the-third n range apart (viewOf n b) (viewsOf n h) x (viewsOf n s) (split m s b h r);
   }
 
   -- what poll answers is the mode last told, as it is read off the records

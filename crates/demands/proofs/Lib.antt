@@ -6,3 +6,4 @@ pub mod Follow
 pub mod DemandThree
 pub mod Promises
 pub mod Lives
+pub mod ComesUp

@@ -11,7 +11,7 @@ use Rattle.handing.specs.Handing.{ownRecord}
 use Rattle.network.specs.declared.State.{State}
 use Rattle.network.specs.declared.Hit.{Hit}
 use Rattle.network.specs.declared.Part.{Part}
-use Rattle.network.specs.Rules.{moveOf}
+use Rattle.network.specs.Rules.{isDone, moveOf}
 use Rattle.network.specs.Moving.{tickState, tickRecords}
 use Rattle.network.specs.BusOff.{hitOf, stallOf, afterHit}
 use Rattle.network.specs.Replies.{replyNumber, isTaken}
@@ -43,7 +43,7 @@ hit-is s Hit.Reset = refl
 hit-is s Hit.NotTaken = refl
 
 played-is : (n : Network) (s : State) (sight : Sight) → partOf n s sight ≡ played n s sight
-unfolding played partOf tickState moveOf
+unfolding played partOf tickState moveOf isDone
 played-is n s aTick = refl
 played-is n s aBusOff = hit-is s (hitOf (s .step))
 played-is n s aStall = hit-is s (stallOf (s .step))
@@ -53,7 +53,7 @@ played-is n s (aReport report) = refl
 played-is n s nothing = refl
 
 handed-is : (n : Network) (s : State) (sight : Sight) → recordsOf n s sight ≡ handed n s sight
-unfolding handed recordsOf tickRecords moveOf
+unfolding handed recordsOf tickRecords moveOf isDone
 handed-is n s aTick = refl
 handed-is n s aBusOff = refl
 handed-is n s aStall = refl

@@ -16,8 +16,8 @@ use Rattle.slots.specs.Calls.{Call, read, start, request, busOff, stall, answer
 use Rattle.slots.specs.Calls.{run}
 use Rattle.calls.specs.Histories.{Entry, entryOf, History, Since, goes}
 use Rattle.calls.specs.Computed.{computedOutcome}
-use Rattle.network_demands.specs.Words.{since, tally, ticked, toldBy, told, wanted, fell, shut, fellUp, restarting, falls, delayAt, waiting}
-use Rattle.network_demands.specs.Words.{fullAtTicks, promptly, saysNo, runs, firstRunning}
+use Rattle.network_demands.specs.Words.{since, tally, ticked, toldBy, told, wanted, fell, shut, fellUp, restarting, falls, delayAt, struck}
+use Rattle.network_demands.specs.Words.{granted, lastHanded, grantedAtTicks, fullFrom, runs, firstRunning}
 use Rattle.demands.specs.View.{keep, viewOf, viewsOf}
 use Rattle.demands.specs.BenchCases.{down, up}
 
@@ -28,7 +28,8 @@ historyOf m (c ∷ cs) h = historyOf (outcome m c .manager) cs (entryOf m c ∷ 
 
 -- with all open that it takes to compute one, and what the words of demand 3 say of it
 unfoldable computedHistory : Manager → List Call → History → History
-unfolding computedOutcome historyOf keep targetsOf ownRecord since tally toldBy told wanted restarting falls runs firstRunning waiting fullAtTicks promptly
+unfolding computedOutcome historyOf keep targetsOf ownRecord since tally toldBy told wanted restarting falls runs firstRunning granted lastHanded
+    grantedAtTicks fullFrom
 computedHistory m cs h = historyOf m cs h
 
 -- it is one of the calls since the start
@@ -55,8 +56,8 @@ pub record Summary : Type 0 where
   pub further-bus-off : Bool
   pub shutdown : Bool
   pub full-wanted : Bool
-  pub prompt : Bool
-  pub not-ok : Bool
+  pub granted : Bool
+  pub struck : Bool
   pub first-running : ℕ
   pub told : ℕ
   pub ticks : ℕ
@@ -69,9 +70,9 @@ summaryOf n after b earlier =
       up-bus-off = fellUp n (viewOf n b) (viewsOf n earlier);
       further-bus-off = any fell (viewsOf n after);
       shutdown = any (shut n) (viewsOf n after);
-      full-wanted = fullAtTicks (viewsOf n after) (viewsOf n (b ∷ earlier));
-      prompt = promptly 1 n (viewsOf n after);
-      not-ok = any (saysNo 1 n) (viewsOf n after);
+      full-wanted = fullFrom 1 (viewsOf n after) (viewsOf n (b ∷ earlier));
+      granted = grantedAtTicks (viewsOf n after);
+      struck = any Rattle.network_demands.specs.Words.struck (viewsOf n after);
       first-running = firstRunning n (viewsOf n after);
       told = Rattle.network_demands.specs.Words.told n (viewsOf n (after ++ (b ∷ earlier)));
       ticks = tally ticked (viewsOf n after);
@@ -84,24 +85,24 @@ summaryBy sheet slot before b after =
     let m = run (startedBy sheet) before in
     summaryOf (networkAt (startedBy sheet) slot) (historyOf (outcome m b .manager) after []) (entryOf m b) (lived sheet before)
 
--- a bus-off while up and good conditions since but for promptness, with the first tick before which all run, the mode told, the ticks and the tick
--- that is due
+-- a bus-off while up and good ticks since, but for whether each request is granted in time, with the first tick before which all run, the mode told,
+-- the ticks and the tick that is due
 abbrev calmSummary : Bool → ℕ → ℕ → ℕ → ℕ → Summary
-calmSummary prompt first-running told ticks due =
+calmSummary granted first-running told ticks due =
     record {
       up-bus-off = true;
       further-bus-off = false;
       shutdown = false;
       full-wanted = true;
-      prompt = prompt;
-      not-ok = false;
+      granted = granted;
+      struck = false;
       first-running = first-running;
       told = told;
       ticks = ticks;
       due = due;
     }
 
--- with promptness too all run before the second tick
+-- with good ticks all run before the second
 abbrev goodSummary : ℕ → ℕ → ℕ → Summary
 goodSummary told ticks due = calmSummary true 2 told ticks due
 

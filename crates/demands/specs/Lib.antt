@@ -7,3 +7,6 @@ pub mod WrongBoxes
 pub mod Histories
 pub mod Promises
 pub mod PromiseBreakers
+pub mod ComesUp
+pub mod Figures
+pub mod SlowBoxes

@@ -41,7 +41,7 @@ lives-ran n [] = tt
 lives-ran n (sight ∷ earlier) = (record { number = λ c. refl; records = refl }, lives-ran n earlier)
 
 -- with all open that it takes to compute one, and what the promises say of it
-unfoldable computedLife : Network → List Sight → OwnHistory
+unfoldable pub computedLife : Network → List Sight → OwnHistory
 unfolding computedOutcome computedWords played handed stateOf lives calledUp awaited afterStall saidOk
 computedLife n l = lives n l
 
@@ -54,11 +54,11 @@ kindAt i l = getD l i (row 0 0 0) .kind
 -- ---- where the bench network is, by what it saw since the start
 
 -- controller 3 answers ok to the request for a mode
-abbrev ok : ℕ → Sight
+abbrev pub ok : ℕ → Sight
 ok mode = anAnswer 3 mode 1
 
 -- at rest: stopped, asleep, and told no
-abbrev rest : List Sight
+abbrev pub rest : List Sight
 rest = aTick ∷ ok 2 ∷ aTick ∷ ok 0 ∷ aTick ∷ []
 
 -- coming up: full is wanted, and the controller is asked to stop
@@ -70,7 +70,7 @@ abbrev starting : List Sight
 starting = aTick ∷ ok 0 ∷ stopping
 
 -- it runs, and full is told
-abbrev full : List Sight
+abbrev pub full : List Sight
 full = aTick ∷ ok 1 ∷ starting
 
 -- a bus-off while up; then it is asked to start
@@ -88,19 +88,19 @@ falling = aTick ∷ aRequest 0 ∷ full
 -- ---- the other network
 
 -- two controllers and a transceiver, with partial networking
-abbrev fitted : Network
+abbrev pub fitted : Network
 fitted = networkWith 2 (3 ∷ 4 ∷ 0 ∷ 0 ∷ []) (Transceiver.Present 5) true 1 Relation.Above
 
 -- both controllers answer ok to the request for a mode
-abbrev both : ℕ → List Sight → List Sight
+abbrev pub both : ℕ → List Sight → List Sight
 both mode earlier = anAnswer 4 mode 1 ∷ ok mode ∷ earlier
 
 -- the wake flag is cleared, and the controllers are asked to stop
-abbrev clearing : List Sight
+abbrev pub clearing : List Sight
 clearing = aTick ∷ aReport Report.Cleared ∷ aTick ∷ []
 
 -- stopped, standby, asleep, and the wake flag is to be checked
-abbrev checking : List Sight
+abbrev pub checking : List Sight
 checking = aTick ∷ both 2 (aTick ∷ aReport (Report.Transceiver 1) ∷ aTick ∷ both 0 clearing)
 
 -- at rest, and full is wanted
@@ -108,7 +108,7 @@ abbrev resting : List Sight
 resting = aRequest 2 ∷ aTick ∷ aReport Report.Checked ∷ checking
 
 -- the transceiver is normal, the controllers are stopped and run
-abbrev running : List Sight
+abbrev pub running : List Sight
 running = both 1 (aTick ∷ both 0 (aTick ∷ aReport (Report.Transceiver 0) ∷ aTick ∷ resting))
 
 -- ---- bus-offs

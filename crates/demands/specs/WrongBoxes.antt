@@ -16,7 +16,8 @@ use Rattle.handing.specs.Handing.{targetsOf, ownRecord}
 use Rattle.slots.specs.Calls.{Call, request, answer, tick}
 use Rattle.calls.specs.Histories.{Entry, History}
 use Rattle.network_demands.specs.Words.{Seen, OwnHistory, since, tally, setback, toldBy, told, wanted, wantedAtTick, restarting, falls, owed, runs}
-use Rattle.network_demands.specs.Words.{firstRunning, waiting, fullAtTicks, promptly, CountedOnce, Told, ToldNo, Answered, Delayed, LateAnswers}
+use Rattle.network_demands.specs.Words.{firstRunning, granted, lastHanded, grantedAtTicks, fullFrom, CountedOnce, Told, ToldNo, Answered, Delayed}
+use Rattle.network_demands.specs.Words.{LateAnswers}
 use Rattle.network_demands.specs.Words.{OnJustThatTick, SaidFrom, LateAfterStall, OnTheThirdTick, SaidFromTheThird}
 use Rattle.demands.specs.View.{keep, viewsOf}
 use Rattle.demands.specs.Demands.{TickTaken}
@@ -65,19 +66,19 @@ abbrev pub ticks : List Record → Seen
 ticks records = taken aTick records
 
 -- a tick that asks controller 3 to start: kind 1, argument 1
-abbrev asks : Seen
+abbrev pub asks : Seen
 asks = ticks (handed 1 3 1 ∷ [])
 
 -- controller 3 answers that it runs: mode started, ok 1
-abbrev answers : Seen
+abbrev pub answers : Seen
 answers = taken (anAnswer 3 1 1) []
 
 -- a request for handle 7: 0 no, 1 silent, 2 full
-abbrev wants : ℕ → Seen
+abbrev pub wants : ℕ → Seen
 wants mode = taken (aRequest mode) []
 
 -- T23: a tick that enters full
-abbrev tellsFull : Seen
+abbrev pub tellsFull : Seen
 tellsFull = ticks (handed 3 3 0 ∷ handed 6 7 2 ∷ handed 7 7 2 ∷ [])
 
 -- T24: a tick that enters silent
@@ -114,7 +115,7 @@ cameUp = tellsFull ∷ answers ∷ asks ∷ wants 2 ∷ []
 
 -- the mode last told, with all open that it takes to compute what the words say
 unfoldable pub computedWords : Network → OwnHistory → ℕ
-unfolding any every since tally toldBy told wanted wantedAtTick restarting falls owed runs firstRunning waiting fullAtTicks promptly
+unfolding any every since tally toldBy told wanted wantedAtTick restarting falls owed runs firstRunning granted lastHanded grantedAtTicks fullFrom
 computedWords n h = told n h
 
 -- ---- exactly when full is told
@@ -287,41 +288,41 @@ module _ where
   pub not-told : SaidFrom network (Four (ticks [])) busOff cameUp → ⊥
   unfolding computedWords
   not-told said =
-      let z : _≡_ {A = ℕ} 1 2 = said refl (record { full = refl; prompt = refl; only-ok = refl; calm = refl; unstalled = refl }) in omega arith
+      let z : _≡_ {A = ℕ} 1 2 = said refl (record { full = refl; granted = refl; calm = refl }) in omega arith
 
   -- S27: with field 07 it is long below the threshold too: one bus-off is fewer than 2, and on the fourth tick full is not told
   pub long-below-the-threshold : SaidFrom (newer 2) (Four (ticks [])) busOff cameUp → ⊥
   unfolding computedWords
   long-below-the-threshold said =
-      let z : _≡_ {A = ℕ} 1 2 = said refl (record { full = refl; prompt = refl; only-ok = refl; calm = refl; unstalled = refl }) in omega arith
+      let z : _≡_ {A = ℕ} 1 2 = said refl (record { full = refl; granted = refl; calm = refl }) in omega arith
 
   -- S27: with field 07 it idles at the threshold: on the seventh tick full is not told
   pub idles-at-the-threshold : SaidFrom (newer 1) (ticks [] ∷ ticks [] ∷ ticks [] ∷ Four (ticks [])) busOff cameUp → ⊥
   unfolding computedWords
   idles-at-the-threshold said =
-      let z : _≡_ {A = ℕ} 1 2 = said refl (record { full = refl; prompt = refl; only-ok = refl; calm = refl; unstalled = refl }) in omega arith
+      let z : _≡_ {A = ℕ} 1 2 = said refl (record { full = refl; granted = refl; calm = refl }) in omega arith
 
   -- it counts every bus-off: a second one in step 6 makes two, and on the fourth tick after it full is not told
   pub second-report-counted : SaidFrom network (Four (ticks [])) busOff (busOff ∷ cameUp) → ⊥
   unfolding computedWords
   second-report-counted said =
-      let z : _≡_ {A = ℕ} 1 2 = said refl (record { full = refl; prompt = refl; only-ok = refl; calm = refl; unstalled = refl }) in omega arith
+      let z : _≡_ {A = ℕ} 1 2 = said refl (record { full = refl; granted = refl; calm = refl }) in omega arith
 
   -- the same by what the fourth tick hands out
   pub not-on-that-tick : OnJustThatTick network (ticks []) three busOff cameUp → ⊥
   unfolding computedWords
-  not-on-that-tick just = false≢true (just refl (record { full = refl; prompt = refl; only-ok = refl; calm = refl; unstalled = refl }) refl)
+  not-on-that-tick just = false≢true (just refl (record { full = refl; granted = refl; calm = refl }) refl)
 
   -- it says full once more on the fifth tick
   pub full-said-twice : OnJustThatTick network tellsFull (Four tellsFull) busOff cameUp → ⊥
   unfolding computedWords
-  full-said-twice just = true≢false (just refl (record { full = refl; prompt = refl; only-ok = refl; calm = refl; unstalled = refl }) refl)
+  full-said-twice just = true≢false (just refl (record { full = refl; granted = refl; calm = refl }) refl)
 
   -- it counts a stall as a bus-off: after the one bus-off that came, full is not told on the fourth tick
   pub stall-counted : SaidFrom network (Four (ticks [])) busOff (tellsFull ∷ answers ∷ asks ∷ (stops ++ (stall ∷ cameUp))) → ⊥
   unfolding computedWords
   stall-counted said =
-      let z : _≡_ {A = ℕ} 1 2 = said refl (record { full = refl; prompt = refl; only-ok = refl; calm = refl; unstalled = refl }) in omega arith
+      let z : _≡_ {A = ℕ} 1 2 = said refl (record { full = refl; granted = refl; calm = refl }) in omega arith
 
   -- it refuses a tick that has the bytes it needs
   pub tick-refused : TickTaken 9 network (entry (tick 9) 0x20 []) → ⊥
@@ -346,17 +347,9 @@ module _ where
   -- it waits for a delay, as after a bus-off, or idles: on the third tick full is not told
   pub not-told-on-the-third : SaidFromTheThird network (waits ∷ reset) stall cameUp → ⊥
   unfolding computedWords
-  not-told-on-the-third said = let z : _≡_ {A = ℕ} 1 2 = said refl (record {
-    good = record { full = refl; prompt = refl; only-ok = refl; calm = refl; unstalled = refl };
-    prompt = refl;
-    only-ok = refl;
-  }) in omega arith
+  not-told-on-the-third said = let z : _≡_ {A = ℕ} 1 2 = said refl (record { full = refl; granted = refl; calm = refl }) in omega arith
 
   -- the same by what the third tick hands out
   pub not-on-the-third-tick : OnTheThirdTick network waits reset stall cameUp → ⊥
   unfolding computedWords
-  not-on-the-third-tick just = false≢true (just refl (record {
-    good = record { full = refl; prompt = refl; only-ok = refl; calm = refl; unstalled = refl };
-    prompt = refl;
-    only-ok = refl;
-  }) refl)
+  not-on-the-third-tick just = false≢true (just refl (record { full = refl; granted = refl; calm = refl }) refl)

@@ -27,7 +27,7 @@ use Rattle.network_theorems.specs.Kept.{Kept}
 use Rattle.network_demands.specs.Own.{finished, reaches, decides}
 
 -- an outfit has what is asked: a transceiver, and for the wake flag partial networking
-abbrev suitsAsk : Outfit → Ask → Bool
+abbrev pub suitsAsk : Outfit → Ask → Bool
 suitsAsk outfit Ask.Nothing = true
 suitsAsk outfit (Ask.Controllers mode) = true
 suitsAsk outfit (Ask.Transceiver mode) = byTransceiver outfit false true

@@ -126,7 +126,7 @@ raised-min : (k f : ℕ) → k ≡ min f 255 → raised k ≡ min (suc f) 255
 raised-min k f e = split (λ (x : ℕ). x ≡ min (suc f) 255) (ltb k 255) (λ l. omega (arith, ltb-true k 255 l)) (λ l. omega (arith, ltb-false k 255 l))
 
 -- by either relation a number exceeds the threshold from one number on, which the record's count can reach
-exceeds-from : (r : Relation) (threshold f : ℕ) → exceeds r threshold f ≡ leb (leastLong r threshold) f
+pub exceeds-from : (r : Relation) (threshold f : ℕ) → exceeds r threshold f ≡ leb (leastLong r threshold) f
 exceeds-from Above threshold f = refl
 exceeds-from AtOrAbove threshold f = refl
 

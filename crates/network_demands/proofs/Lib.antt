@@ -8,8 +8,7 @@ pub mod Running
 pub mod Way
 pub mod Told
 pub mod Second
-pub mod Third
-pub mod ThirdTick
+pub mod Says
 pub mod Arrows
 pub mod Given
 pub mod Standing
@@ -22,3 +21,10 @@ pub mod Stops
 pub mod Waits
 pub mod Ticks
 pub mod Promises
+pub mod Toward
+pub mod Granted
+pub mod Nearer
+pub mod Countdown
+pub mod Third
+pub mod NeverStuck
+pub mod Climbing

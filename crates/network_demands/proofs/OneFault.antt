@@ -6,7 +6,7 @@ use Rattle.network_demands.specs.Words.{Seen, OwnHistory, never, shut, f
 use Rattle.network_demands.specs.Own.{Ran}
 use Rattle.network_demands.proofs.Counted.{falls-by, restarting-begins, restarting-uncleared}
 use Rattle.network_demands.proofs.Second.{never-first, never-rest}
-use Rattle.network_demands.proofs.Third.{ran-earlier}
+use Rattle.network_demands.proofs.Says.{ran-earlier}
 
 module _ (n : Network) (g : InRange n) where
   -- a network that is restarting stays so until TX offline or a shutdown

@@ -14,8 +14,6 @@ use Rattle.steps.specs.declared.Step.{Step}
 use Rattle.steps.specs.declared.Step.the-variants.{NoCommunication, TransceiverNormal, ControllersStopped, ControllersStarted, Checking, Full}
 use Rattle.steps.specs.declared.Step.the-variants.{Restarting, Waiting, Silent, ClearWake, DownStopped, TransceiverStandby, ControllersSleep}
 use Rattle.steps.specs.declared.Step.the-variants.{CheckWake, CheckWakeAgain, ResetStopped, ResetStarted}
-use Rattle.steps.specs.declared.Phase.{Phase}
-use Rattle.steps.specs.declared.Timer.{Timer}
 use Rattle.steps.specs.declared.Ask.{Ask}
 use Rattle.steps.specs.declared.Outfit.{Outfit}
 use Rattle.steps.specs.declared.Move.{Move}
@@ -25,18 +23,16 @@ use Rattle.steps.specs.Decision.{risen, decision}
 use Rattle.steps.specs.After.{stepAfter}
 use Rattle.handing.specs.Handing.{requests, moveRecords, recovery, reset}
 use Rattle.network.specs.declared.Heard.{Heard}
-use Rattle.network.specs.declared.Report.{Report}
 use Rattle.network.specs.declared.State.{State}
 use Rattle.network.specs.State.{blankAnswers, heardOf, started}
 use Rattle.network.specs.Rules.{isOkay, isRefusal, isLong, delayOf, outfitOf}
 use Rattle.network.specs.Moving.{countAfter, asksAfter, keepsAnswers, afterMove}
-use Rattle.network.specs.Answers.{takesReport}
 use Rattle.network.specs.BusOff.{madeAnew, afterHit}
 use Rattle.network.specs.Parts.{aTick, aBusOff, aStall, anAnswer}
 use Rattle.network_theorems.specs.Kept.{isFullMode, Kept}
 use Rattle.network_theorems.proofs.Moves.{ByMove, by-move}
-use Rattle.network_demands.specs.Words.{is, Seen, OwnHistory, since, tally, isAnswer, ticked, setback, told, wanted, wantedAtTick, up, owed}
-use Rattle.network_demands.specs.Words.{accepted, afterStall, askedToStart, runs, allRun, firstRunning, Told, ToldNo, Answered}
+use Rattle.network_demands.specs.Words.{is, Seen, OwnHistory, since, tally, ticked, setback, told, wanted, wantedAtTick, up, owed}
+use Rattle.network_demands.specs.Words.{afterStall, askedToStart, runs, allRun, firstRunning, Told, ToldNo, Answered}
 use Rattle.network_demands.specs.Own.{finished, reaches, decides, tickAfter, tickHands, recovered, played, stateOf, Fits, Ran}
 use Rattle.network_demands.proofs.Views.{seen, by-part}
 use Rattle.network_demands.proofs.Tests.{finished-just, finished-asked, reaches-just}
@@ -48,7 +44,7 @@ use Rattle.network_demands.proofs.Follows.{state-kept, wanted-follows, 
 use Rattle.network_demands.proofs.Counted.{Counted, counted, counted-fall, delay-follows}
 use Rattle.network_demands.proofs.Running.{since-by, owed-by, stall-by, asked-first, first-stays, first-tick, none-run}
 use Rattle.network_demands.proofs.Way.{Cause, comingUp, busOff, stall, Way, away, stopping, starting, delayed, there, silenced}
-use Rattle.network_demands.proofs.Way.{wayIn, causeIn, wayOf, isThere, down-away, down-comes-up, way-away, delayBy, isStallCause, Late}
+use Rattle.network_demands.proofs.Way.{causeIn, wayOf, isThere, down-away, down-comes-up, way-away, delayBy, isStallCause, Late}
 use Rattle.network_demands.proofs.Way.{soonest, later, first-down-away, full-there, to-start, Starts, Running, Away, Stands, StandsAt}
 use Rattle.network_demands.proofs.Way.{stands-same}
 use Rattle.network_demands.proofs.Way.{heard-stands, anew, nothing-since}
@@ -58,7 +54,7 @@ use Rattle.network_demands.proofs.Way.{heard-stands, anew, nothing-sinc
 risen-one : (t : ℕ) → t < 65535 → risen t ≡ t + 1
 risen-one t l = rw (lt-ltb t 65535 l) refl
 
-delay-range : (n : Network) → InRange n → (count : ℕ) → (1 ≤ delayOf n count) × (delayOf n count < 65536)
+pub delay-range : (n : Network) → InRange n → (count : ℕ) → (1 ≤ delayOf n count) × (delayOf n count < 65536)
 unfolding delayOf
 delay-range n g count = split (λ (x : ℕ). (1 ≤ x) × (x < 65536)) (isLong (n .relation) (n .threshold) count) (λ _. g .long) (λ _. g .short)
 
@@ -436,49 +432,3 @@ module _ (n : Network) (g : InRange n) (f : Distinct (controllersOf n)) (h : Own
   first-sentence e =
       there-running n (wayOf (w .step)) (w .asked) (w .answers) (w .count) (owed n h) (wantedAtTick h) q (afterStall n h) (stands-at n g f h r)
       (sym told-there ∙ ap (eqb 2) e)
-
-  -- ---- where a delay is owed, as long as not all have run
-  module _ (o : 0 < owed n h) (z : firstRunning n q ≡ 0) where
-    -- the controllers are asked to start
-    starting-again : asksToStart (asksFor (w .step)) ≡ true
-    starting-again = by-test (asksToStart (asksFor (w .step))) (stands-at n g f h r)
-      where
-        not-else : (phase : Phase) (timer : Timer)
-            → Stands n (wayIn phase timer) (w .asked) (w .answers) (w .count) q (owed n h) (wantedAtTick h) (afterStall n h) → ⊥
-        not-else Phase.Off timer i = omega (arith, o, i .0 .delay)
-        not-else Phase.Rising timer i = omega (arith, o, i .0 .delay)
-        not-else Phase.Checking timer i = omega (arith, z, later n q (afterStall n h) (i .0))
-        not-else Phase.Full timer i = omega (arith, z, later n q (afterStall n h) (i .0))
-        not-else Phase.Recovering timer i = omega (arith, z, later n q (afterStall n h) (i .0))
-        not-else Phase.Silent timer i = omega (arith, z, later n q (afterStall n h) (i .0))
-        not-else Phase.Falling timer i = omega (arith, o, i .0 .delay)
-        not-else Phase.Resetting timer i = omega (arith, o, i .0 .delay)
-
-        by-test : (b : Bool) → Stands n (cond b (starting (causeIn (phaseOf (w .step)))) (wayIn (phaseOf (w .step)) (timerOf (w .step))))
-            (w .asked) (w .answers) (w .count) q (owed n h) (wantedAtTick h) (afterStall n h) → b ≡ true
-        by-test true i = refl
-        by-test false i = absurd (not-else (phaseOf (w .step)) (timerOf (w .step)) i)
-
-    starts-again : Starts n (causeIn (phaseOf (w .step))) (w .asked) (w .answers) (w .count) q (owed n h) (afterStall n h)
-    starts-again = rw starting-again at (stands-at n g f h r)
-
-    -- each of them was, exactly if a tick came
-    pub asked-by-tick : (c : ℕ) → member c (controllersOf n) ≡ true → askedToStart c q ≡ ltb 0 (tally ticked q)
-    asked-by-tick c m = starts-again .requested c m ∙ starts-again .sent
-
-    -- and then an ok of one of them is accepted
-    pub okay-accepted : (e : Seen) → Fits n w e → 0 < tally ticked q → (c : ℕ) → member c (controllersOf n) ≡ true → isAnswer c 1 (e .sight) ≡ true
-        → accepted e ≡ true
-    unfolding takesReport
-    okay-accepted e fits some c m = by-part n w (λ e t. isAnswer c 1 (e .sight) ≡ true → accepted e ≡ true) (record {
-      plain = λ sight number mode reported p a. absurd (true≢false (sym awaited ∙ p .deaf c ControllerMode.Started m a));
-      hears = λ c mode ok m l t a. refl;
-      recovers = λ b a. refl;
-      restarts = λ b s a. refl;
-      not-taken = λ b s a. absurd (false≢true a);
-      resets = λ b a. refl;
-      ticks = λ a. refl;
-    }) e fits
-      where
-        awaited : takesReport w (Report.Controller 1) ≡ true
-        awaited = rw (starts-again .sent ∙ lt-ltb 0 (tally ticked q) some, to-start (asksFor (w .step)) starting-again) refl

@@ -2,20 +2,20 @@
 -- a box is an edit of one line; the rules themselves stand in `network`.
 use mathlib.Core.Path.{_≡_}
 use mathlib.Core.List.{List, [], _∷_}
-use mathlib.Core.Bool.{Bool, true, false}
+use mathlib.Core.Bool.{Bool, true, false, cond}
 use Rattle.lists.specs.Lists.{any}
 use Rattle.records.specs.declared.Record.{Record}
 use Rattle.settings.specs.declared.Network.{Network}
 use Rattle.steps.specs.declared.Step.{Step}
 use Rattle.steps.specs.declared.Move.{Move}
-use Rattle.steps.specs.Steps.{timerOf}
+use Rattle.steps.specs.Steps.{asksFor, timerOf}
 use Rattle.steps.specs.Decision.{decision}
 use Rattle.handing.specs.Handing.{moveRecords}
 use Rattle.network.specs.declared.State.{State}
 use Rattle.network.specs.declared.Hit.{Hit}
 use Rattle.network.specs.declared.Part.{Part}
 use Rattle.network.specs.State.{heardOf, started}
-use Rattle.network.specs.Rules.{isRefusal, isDone, delayOf, reachedBy, outfitOf}
+use Rattle.network.specs.Rules.{isRefusal, doneBy, delayOf, reachedBy, outfitOf}
 use Rattle.network.specs.Moving.{afterMove}
 use Rattle.network.specs.BusOff.{hitOf, stallOf, afterHit, hitRecords}
 use Rattle.network.specs.Replies.{replyNumber}
@@ -25,9 +25,13 @@ use Rattle.network_demands.specs.Words.{Seen, OwnHistory}
 
 -- ---- the tick
 
+-- a report that was asked for has come
+abbrev pub reportHeard : State → Bool
+reportHeard s = s .reported
+
 -- the step is done
 abbrev pub finished : Network → State → Bool
-finished n s = isDone n s
+finished n s = cond (s .asked) (doneBy (asksFor (s .step)) (heardOf n s) (reportHeard s)) false
 
 -- the time of the step is reached
 abbrev pub reaches : Network → State → Bool

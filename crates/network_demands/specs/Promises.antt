@@ -182,7 +182,7 @@ pub record Ticks (n : Network) (e : Seen) (h : OwnHistory) : Type 0 where
   pub starts : (c : ℕ) → hands 1 c 1 e ≡ true → AsksToStart n c e h
   -- no record has an argument above those of its kind
   pub known : any (λ (r : Record). ltb (highest (r .kind)) (r .argument)) (e .records) ≡ false
-  -- a tick hands out at most two records more than the network has controllers, and what is neither a tick, a bus-off nor a
+  -- F5: a tick hands out at most two records more than the network has controllers, and what is neither a tick, a bus-off nor a
   -- stall hands out none
   pub few : ticked e ≡ true → length (e .records) ≤ n .count + 2
   pub none : ticked e ≡ false → fell e ≡ false → isStall (e .sight) ≡ false → e .records ≡ []

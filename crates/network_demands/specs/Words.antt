@@ -10,6 +10,7 @@ use Rattle.records.specs.declared.Record.{Record}
 use Rattle.settings.specs.declared.Relation.{Relation}
 use Rattle.settings.specs.declared.Network.{Network}
 use Rattle.settings.specs.Settings.{controllersOf, member}
+use Rattle.network.specs.declared.Report.{Report}
 use Rattle.network.specs.Parts.{Sight, aTick, aBusOff, aStall, anAnswer, aRequest, aReport, nothing}
 
 -- ---- histories of one network
@@ -124,6 +125,10 @@ fell e = isBusOff (e .sight)
 abbrev pub stalled : Seen → Bool
 stalled e = isStall (e .sight) && accepted e
 
+-- a bus-off or a stall that was accepted: what stood asked for no longer does
+abbrev pub struck : Seen → Bool
+struck e = (fell e && accepted e) || stalled e
+
 -- T26: a shutdown begins, which 7 no says
 abbrev pub shut : Network → Seen → Bool
 shut n e = hands 7 (n .handle) 0 e
@@ -178,7 +183,7 @@ on n h = rested n h && calledUp n h
 unfoldable pub awaited : ℕ → ℕ → ℕ → OwnHistory → Bool
 awaited kind target argument [] = false
 awaited kind target argument (e ∷ h) =
-    cond (ticked e) (hands kind target argument e) (cond ((fell e && accepted e) || stalled e) false (awaited kind target argument h))
+    cond (ticked e) (hands kind target argument e) (cond (struck e) false (awaited kind target argument h))
 
 -- the mode that was wanted at the last tick; no where there was none
 unfoldable pub wantedAtTick : OwnHistory → ℕ
@@ -292,45 +297,83 @@ LateAnswers n s b h =
     fellUp n b h ≡ true → never fell s → never stalled s → never (shut n) s
     → (eqb 2 (told n (s ++ (b ∷ h))) ≡ duly n (delayAt n (b ∷ h)) s (s ++ (b ∷ h))) × (eqb 1 (firstRunning n s) ≡ false)
 
--- ---- third sentence: where conditions are good, that tick is the one that tells full
+-- ---- what answers a request
 
--- full is wanted at every tick of s, which follows h
-unfoldable pub fullAtTicks : OwnHistory → OwnHistory → Bool
-fullAtTicks [] h = true
-fullAtTicks (e ∷ s) h = cond (ticked e) (eqb 2 (wanted (s ++ h))) true && fullAtTicks s h
+-- kinds 1, 2, 4 and 5 ask for something
+abbrev pub isRequest : Record → Bool
+isRequest r = member (r .kind) (1 ∷ 2 ∷ 4 ∷ 5 ∷ [])
 
--- a request for a mode stands unanswered: no call says ok to it
-unfoldable pub waiting : ℕ → ℕ → OwnHistory → Bool
-waiting mode c [] = false
-waiting mode c (e ∷ h) = cond (hands 1 c mode e) true (cond (isAnswerOn c mode 1 (e .sight)) false (waiting mode c h))
+-- a report that what a request of this kind asks for is done: of a transceiver the asked mode, of a wake flag that it was cleared, or was checked
+abbrev pub reportsOn : ℕ → ℕ → Report → Bool
+reportsOn kind argument (Report.Controller mode) = false
+reportsOn kind argument (Report.Transceiver mode) = eqb 2 kind && eqb argument mode
+reportsOn kind argument Report.Cleared = eqb 4 kind
+reportsOn kind argument Report.Checked = eqb 5 kind
 
--- every request for the mode is answered before the next tick
-unfoldable pub promptly : ℕ → Network → OwnHistory → Bool
-promptly mode n [] = true
-promptly mode n (e ∷ h) = cond (ticked e) (not (any (λ (c : ℕ). waiting mode c h) (controllersOf n))) true && promptly mode n h
+-- such a report, as it is seen
+abbrev pub reportSeen : ℕ → ℕ → Sight → Bool
+reportSeen kind argument aTick = false
+reportSeen kind argument aBusOff = false
+reportSeen kind argument aStall = false
+reportSeen kind argument (anAnswer controller mode ok) = false
+reportSeen kind argument (aRequest mode) = false
+reportSeen kind argument (aReport report) = reportsOn kind argument report
+reportSeen kind argument nothing = false
 
--- a controller of the network answers the request for the mode with not ok
-abbrev pub saysNo : ℕ → Network → Seen → Bool
-saysNo mode n e = any (λ (c : ℕ). isAnswerOn c mode 0 (e .sight) && accepted e) (controllersOf n)
+-- a call that says ok to the request, or reports that it is done: whatever the box answers to that call
+abbrev pub grants : Record → Sight → Bool
+grants r sight = (eqb 1 (r .kind) && isAnswerOn (r .target) (r .argument) 1 sight) || reportSeen (r .kind) (r .argument) sight
 
--- the good conditions: s follows the bus-off at the head of h; every request to start is answered promptly, and only with ok
-pub record GoodConditions (n : Network) (s h : OwnHistory) : Type 0 where
-  pub full : fullAtTicks s h ≡ true
-  pub prompt : promptly 1 n s ≡ true
-  pub only-ok : never (saysNo 1 n) s
-  pub calm : never fell s
-  pub unstalled : never stalled s
+-- one that says not ok to it
+abbrev pub denies : Record → Sight → Bool
+denies r sight = eqb 1 (r .kind) && isAnswerOn (r .target) (r .argument) 0 sight
+
+-- F2: since the last tick, the last call that answers the request says ok
+unfoldable pub granted : Record → OwnHistory → Bool
+granted r [] = false
+granted r (e ∷ s) = cond (ticked e) false (cond (grants r (e .sight)) true (cond (denies r (e .sight)) false (granted r s)))
+
+-- what the last tick handed out; nothing, where there was none
+unfoldable pub lastHanded : OwnHistory → List Record
+lastHanded [] = []
+lastHanded (e ∷ s) = cond (ticked e) (e .records) (lastHanded s)
+
+-- each request that the last tick handed out is granted
+abbrev pub allGranted : OwnHistory → Bool
+allGranted s = every (λ (r : Record). not (isRequest r) || granted r s) (lastHanded s)
+
+-- so it is before every tick of s. Nothing is asked of what stood open before s
+unfoldable pub grantedAtTicks : OwnHistory → Bool
+grantedAtTicks [] = true
+grantedAtTicks (e ∷ s) = cond (ticked e) (allGranted s) true && grantedAtTicks s
+
+-- ---- good ticks
+
+-- full is wanted at every tick of s, which follows h, from the one with this number on, counted from 1
+unfoldable pub fullFrom : ℕ → OwnHistory → OwnHistory → Bool
+fullFrom number [] h = true
+fullFrom number (e ∷ s) h = cond (ticked e && leb number (tally ticked (e ∷ s))) (eqb 2 (wanted (s ++ h))) true && fullFrom number s h
+
+-- F2: the ticks of s are good: full is wanted at them, from one of them on; of each request that the tick before handed out the last call that
+-- answers it says ok; no bus-off and no stall was accepted. A bus-off that is refused, an answer that is not ok and is followed by an ok, one that
+-- nobody asked for: all of that may come
+pub record GoodTicks (number : ℕ) (s h : OwnHistory) : Type 0 where
+  pub full : fullFrom number s h ≡ true
+  pub granted : grantedAtTicks s ≡ true
+  pub calm : never struck s
+
+-- ---- third sentence: where the ticks are good, that tick is the one that tells full
 
 -- a tick t tells full exactly if it is the one numbered delay plus two after the bus-off b
 abbrev pub OnJustThatTick : Network → Seen → OwnHistory → Seen → OwnHistory → Type 0
 OnJustThatTick n t s b h =
-    fellUp n b h ≡ true → GoodConditions n (t ∷ s) (b ∷ h) → ticked t ≡ true
+    fellUp n b h ≡ true → GoodTicks 1 (t ∷ s) (b ∷ h) → ticked t ≡ true
     → hands 6 (n .handle) 2 t ≡ eqb (delayAt n (b ∷ h) + 2) (tally ticked (t ∷ s))
 
 -- the same by the mode last told: silent up to that tick, full from it on
 abbrev pub SaidFrom : Network → OwnHistory → Seen → OwnHistory → Type 0
 SaidFrom n s b h =
-    fellUp n b h ≡ true → GoodConditions n s (b ∷ h) → told n (s ++ (b ∷ h)) ≡ cond (leb (delayAt n (b ∷ h) + 2) (tally ticked s)) 2 1
+    fellUp n b h ≡ true → GoodTicks 1 s (b ∷ h) → told n (s ++ (b ∷ h)) ≡ cond (leb (delayAt n (b ∷ h) + 2) (tally ticked s)) 2 1
 
 -- ---- after a stall: the history is s after the stall b after h
 
@@ -341,18 +384,12 @@ LateAfterStall n s b h =
     stalled b ≡ true → never fell s → never stalled s → never (shut n) s
     → (eqb 2 (told n (s ++ (b ∷ h))) ≡ duly n 0 s (s ++ (b ∷ h))) × (ltb 0 (firstRunning n s) ≡ leb 3 (firstRunning n s))
 
--- the good conditions: s follows the stall at the head of h; every request to stop is answered promptly too, and only with ok
-pub record GoodReset (n : Network) (s h : OwnHistory) : Type 0 where
-  pub good : GoodConditions n s h
-  pub prompt : promptly 0 n s ≡ true
-  pub only-ok : never (saysNo 0 n) s
-
 -- a tick t tells full exactly if it is the third after the stall b
 abbrev pub OnTheThirdTick : Network → Seen → OwnHistory → Seen → OwnHistory → Type 0
 OnTheThirdTick n t s b h =
-    stalled b ≡ true → GoodReset n (t ∷ s) (b ∷ h) → ticked t ≡ true → hands 6 (n .handle) 2 t ≡ eqb 3 (tally ticked (t ∷ s))
+    stalled b ≡ true → GoodTicks 1 (t ∷ s) (b ∷ h) → ticked t ≡ true → hands 6 (n .handle) 2 t ≡ eqb 3 (tally ticked (t ∷ s))
 
 -- the same by the mode last told: silent up to that tick, full from it on
 abbrev pub SaidFromTheThird : Network → OwnHistory → Seen → OwnHistory → Type 0
 SaidFromTheThird n s b h =
-    stalled b ≡ true → GoodReset n s (b ∷ h) → told n (s ++ (b ∷ h)) ≡ cond (leb 3 (tally ticked s)) 2 1
+    stalled b ≡ true → GoodTicks 1 s (b ∷ h) → told n (s ++ (b ∷ h)) ≡ cond (leb 3 (tally ticked s)) 2 1

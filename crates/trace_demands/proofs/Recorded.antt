@@ -20,8 +20,10 @@ use Rattle.trace.specs.Lines.{entryLine, eventLine}
 use Rattle.trace.specs.Splitting.{eventsFrom}
 use Rattle.trace.specs.Trace.{readingOf, firstLine, firstManager, ending, runLines, eventLines, linesAfter, traceOf}
 use Rattle.demands.specs.Demands.{Begun, Demand3}
+use Rattle.demands.specs.ComesUp.{ComesUp}
 use Rattle.demands.proofs.Follow.{follow}
 use Rattle.demands.proofs.DemandThree.{demand-3}
+use Rattle.demands.proofs.ComesUp.{comes-up}
 use Rattle.trace_demands.specs.Recorded.{historyLines, historyAfter, managerAfter, eventsOf, Recorded, HasRoom}
 use Rattle.trace_demands.proofs.Room.{events-not-short, events-then-tick}
 
@@ -93,6 +95,10 @@ module _ (s : List ℕ) (bytes : Bytes s) (taken : eqb (answerNumber (readingOf 
   -- demand 3 holds of every network of it, over that history and every other since the start
   pub recorded-demand-3 : (i : ℕ) → i < length (networksOf (firstManager s)) → Demand3 (firstManager s) (networkAt (firstManager s) i)
   recorded-demand-3 i h = demand-3 (firstManager s) first-begun i h
+
+  -- and so do the figures
+  pub recorded-comes-up : (i : ℕ) → i < length (networksOf (firstManager s)) → ComesUp (firstManager s) (networkAt (firstManager s) i)
+  recorded-comes-up i h = comes-up (firstManager s) first-begun i h
 
   -- what its calls are lent is room for any of them
   pub recorded-has-room : HasRoom s
