@@ -34,7 +34,7 @@ use Rattle.slots.specs.Manager.{answerNumber, networksOf, settingsOf, networkAt
 use Rattle.slots.specs.Calls.{Call, read, write, start, request, poll, busOff, stall, answer, transceiverMode, clearDone, checkDone, tick, byStage}
 use Rattle.slots.specs.Calls.{afterReading, readInto, writingOf, startedFrom, unknown, slotAt, slotOf, bySlot, answerOf, settled, slotOutcome}
 use Rattle.slots.specs.Calls.{named, slotRecords, polled, gateOf, byGate, gateRecords, troubleNeeds, allTicked, outcome, handedOut}
-use Rattle.manager.proofs.Ticks.{hit-fits, trouble-part, trouble-records}
+use Rattle.lent_calls.proofs.Ticks.{hit-fits, trouble-part, trouble-records}
 use Rattle.calls.specs.Histories.{isAccepted, to, toNobody, addressOf, seenAs, refusalsOf, roomOf}
 
 -- ---- which network has an id

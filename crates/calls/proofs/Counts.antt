@@ -6,7 +6,7 @@ use Rattle.slots.specs.declared.Manager.{Manager}
 use Rattle.slots.specs.declared.Outcome.{Outcome}
 use Rattle.slots.specs.Manager.{networksOf, tickNeeds}
 use Rattle.slots.specs.Calls.{Call, allTicked, outcome, handedOut, bufferWith, Gives}
-use Rattle.manager.proofs.Ticks.{records-shares}
+use Rattle.lent_calls.proofs.Ticks.{records-shares}
 use Rattle.calls.specs.Histories.{roomOf, countsRecords}
 use Rattle.calls.proofs.ByCall.{ByCall, by-call}
 

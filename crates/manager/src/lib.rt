@@ -1,15 +1,13 @@
 // The state manager of 1 to 8 networks: its public calls. Each takes the manager and gives back the next one, beside its answer.
-mod answering;
-mod requesting;
-mod ticking;
-mod troubles;
-
-pub use answering::check_done;
-pub use answering::clear_done;
-pub use answering::controller_answer;
-pub use answering::transceiver_mode;
-pub use requesting::poll;
-pub use requesting::request;
+pub use lent_calls::bus_off;
+pub use lent_calls::stall;
+pub use lent_calls::tick;
+pub use quiet_calls::check_done;
+pub use quiet_calls::clear_done;
+pub use quiet_calls::controller_answer;
+pub use quiet_calls::poll;
+pub use quiet_calls::request;
+pub use quiet_calls::transceiver_mode;
 pub use setting_up::new;
 pub use setting_up::read;
 pub use setting_up::start;
@@ -18,6 +16,3 @@ pub use slots::Answer;
 pub use slots::Manager;
 pub use slots::Outcome;
 pub use slots::Stage;
-pub use ticking::tick;
-pub use troubles::bus_off;
-pub use troubles::stall;
