@@ -1,5 +1,5 @@
 -- How long, how many, and never stuck: for every network of every started manager, over every history of calls since the start.
-use Rattle.lists.proofs.Basics.{ℕ, _<_, _≡_, sym, ap, subst, _∙_, _∷_, _++_, eqb, length}
+use Rattle.lists.proofs.Basics.{ℕ, _<_, ap, subst, _∙_, _∷_, _++_, eqb, length}
 use Rattle.settings.specs.declared.Network.{Network}
 use Rattle.settings.specs.Settings.{controllersOf}
 use Rattle.settings.specs.Good.{InRange, Distinct}
@@ -7,7 +7,7 @@ use Rattle.steps.specs.Steps.{stepNumber}
 use Rattle.network.specs.declared.State.{State}
 use Rattle.slots.specs.declared.Manager.{Manager}
 use Rattle.slots.specs.Manager.{networksOf, networkAt}
-use Rattle.calls.specs.Histories.{Entry, History, Since}
+use Rattle.calls.specs.Histories.{History, Since}
 use Rattle.network_demands.specs.Own.{Ran}
 use Rattle.network_demands.proofs.NeverStuck.{never-stuck}
 use Rattle.network_demands.proofs.Climbing.{rest-means, from-rest, on-that-tick-from-rest, records-from-rest, from-start, to-rest}

@@ -13,7 +13,7 @@ use Rattle.settings.specs.declared.Network.{Network}
 use Rattle.network.specs.declared.Report.{Report}
 use Rattle.network.specs.Parts.{Sight, aTick, aBusOff, anAnswer, aRequest, aReport}
 use Rattle.network_demands.specs.Words.{OwnHistory, tally, ticked, struck, fullFrom, grantedAtTicks}
-use Rattle.network_demands.specs.ComesUp.{ticksToRest, mostTicks, atRest, recordCount}
+use Rattle.network_demands.specs.ComesUp.{mostTicks, atRest, recordCount}
 use Rattle.demands.specs.WrongBoxes.{networkWith, network}
 use Rattle.demands.specs.PromiseBreakers.{lives, computedLife, ok, both, rest, full, fitted, clearing, checking}
 

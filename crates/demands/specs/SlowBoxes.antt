@@ -4,8 +4,7 @@ use Prim.Native.Nat.{ℕ, zero, suc}
 use native.Mathlib.Omega.{arith}
 use mathlib.Core.Path.{_≡_, refl}
 use mathlib.Core.List.{List, [], _∷_, _++_}
-use mathlib.Core.Bool.{true≢false, false≢true}
-use Rattle.records.specs.declared.Record.{Record}
+use mathlib.Core.Bool.{true≢false}
 use Rattle.records.specs.Records.{handed}
 use Rattle.network.specs.Parts.{Sight, aTick, aRequest}
 use Rattle.network_demands.specs.Words.{Seen, OwnHistory, wantedAtTick, Told, ToldNo, Answered}

@@ -15,8 +15,7 @@ use Rattle.settings.specs.Settings.{controllersOf, listed}
 use Rattle.settings.specs.Good.{Distinct, InRange}
 use Rattle.settings.proofs.Good.{controllers-counted}
 use Rattle.steps.specs.declared.Step.{Step}
-use Rattle.steps.specs.declared.Step.the-variants.{NoCommunication, Full}
-use Rattle.steps.specs.declared.Step.the-variants.{Silent, ClearWake}
+use Rattle.steps.specs.declared.Step.the-variants.{NoCommunication}
 use Rattle.steps.specs.declared.Ask.{Ask}
 use Rattle.steps.specs.declared.Outfit.{Outfit}
 use Rattle.steps.specs.declared.Move.{Move}
@@ -24,6 +23,7 @@ use Rattle.steps.specs.declared.Move.the-variants.{AskAgain}
 use Rattle.steps.specs.Steps.{stepNumber, phaseOf, asksFor, isUp, isAsking}
 use Rattle.steps.specs.Decision.{byTransceiver}
 use Rattle.steps.specs.After.{firstDown, stepAfter}
+use Rattle.steps.proofs.Laws.{numbered-is}
 use Rattle.handing.specs.Handing.{requests, moveRecords}
 use Rattle.network.specs.declared.State.{State}
 use Rattle.network.specs.State.{blankAnswers, started}
@@ -32,7 +32,6 @@ use Rattle.network.specs.Moving.{afterMove}
 use Rattle.network.specs.Parts.{aTick}
 use Rattle.network_theorems.proofs.Moves.{full-quiet}
 use Rattle.network_demands.specs.Words.{GoodTicks, Seen, OwnHistory, hands, since, never, tally, ticked, struck, told, wanted, rested, calledUp}
-use Rattle.network_demands.specs.Words.{on}
 use Rattle.network_demands.specs.Own.{reaches, decides, tickAfter, tickHands, stateOf, Ran}
 use Rattle.network_demands.specs.ComesUp.{byFit, ticksFromRest, recordsFromRest, ticksToRest, ticksFromStart, recordsFromStart}
 use Rattle.network_demands.specs.ComesUp.{atRest, recordCount, FromRest, OnThatTickFromRest, RecordsFromRest, FromStart, ToRest}
@@ -48,7 +47,7 @@ use Rattle.network_demands.proofs.Standing.{stands}
 use Rattle.network_demands.proofs.Told.{told-no}
 use Rattle.network_demands.proofs.Turns.{ends}
 use Rattle.network_demands.proofs.Ticks.{ticks}
-use Rattle.network_demands.proofs.Toward.{byEach, ticksLeft, recordsLeft, full-handed, rest-number, zero-step, onward, further-falls, Advances}
+use Rattle.network_demands.proofs.Toward.{byEach, ticksLeft, recordsLeft, full-handed, rest-number, onward, further-falls, Advances}
 use Rattle.network_demands.proofs.Toward.{advances}
 use Rattle.network_demands.proofs.Toward.{length-round, length-errand}
 use Rattle.network_demands.proofs.Nearer.{left, Onward, moves-on, full-number, onward-then, full-then, fewer-ticks}
@@ -205,7 +204,7 @@ module _ (n : Network) (g : InRange n) (f : Distinct (controllersOf n)) (h : Own
   no-fall _ = refl
 
   at-zero : Ran n h → stateOf n h .step ≡ NoCommunication
-  at-zero r = zero-step (stateOf n h .step) (sym (rest-means n g h r) ∙ z)
+  at-zero r = numbered-is 0 (stateOf n h .step) (sym (rest-means n g h r) ∙ z)
 
   -- before the first tick
   rest-begins : Ran n h → Wakes []
@@ -333,33 +332,23 @@ module _ (n : Network) (g : InRange n) (f : Distinct (controllersOf n)) where
   unfolding stateOf started
   starts = by-fit (n .partial)
     where
-      by-fit : (b : Bool) → Unasked (record {
-        step = firstDown b;
-        wanted = Mode.No;
-        told = Mode.No;
-        count = 0;
-        asked = false;
-        answers = blankAnswers;
-        reported = false;
-      }) false number
-      by-fit true = record {
-        asking = refl;
+      from : Step → State
+      from step = record { step = step; wanted = Mode.No; told = Mode.No; count = 0; asked = false; answers = blankAnswers; reported = false }
+
+      falling : (step : Step) → isAsking step ≡ true → eqb 12 (stepNumber step) ≡ false → hasRested step ≡ false → Unasked (from step) false number
+      falling step asks other falls = record {
+        asking = asks;
         unasked = refl;
-        awake = λ z. absurd (omega (arith, ap stepNumber z));
+        awake = λ z. true≢false (ap (λ (x : Step). eqb 12 (stepNumber x)) (sym z) ∙ other);
         falls = λ _. refl;
-        rested = refl;
-        called = λ z. absurd (false≢true z);
+        rested = falls;
+        called = λ z. absurd (false≢true (sym falls ∙ z));
         not-full = refl;
       }
-      by-fit false = record {
-        asking = refl;
-        unasked = refl;
-        awake = λ z. absurd (omega (arith, ap stepNumber z));
-        falls = λ _. refl;
-        rested = refl;
-        called = λ z. absurd (false≢true z);
-        not-full = refl;
-      }
+
+      by-fit : (b : Bool) → Unasked (from (firstDown b)) false number
+      by-fit true = falling (firstDown true) refl refl refl
+      by-fit false = falling (firstDown false) refl refl refl
 
   -- the last tick is the one of the figures
   start-figure : suc (left n (stateOf n [])) ≡ ticksFromStart n

@@ -19,7 +19,7 @@ use Rattle.steps.specs.declared.Move.the-variants.{Stay, AskAgain, Count, Enter
 use Rattle.steps.specs.Steps.{upPhase, isUp, isFullStep, isRestarting}
 use Rattle.steps.specs.Decision.{decision}
 use Rattle.steps.specs.After.{firstDown, stepAfter}
-use Rattle.steps.proofs.Laws.{restarting-is, not-restarting}
+use Rattle.steps.proofs.Laws.{numbered-is, not-restarting}
 use Rattle.handing.specs.Handing.{recovery, reset}
 use Rattle.network.specs.declared.State.{State}
 use Rattle.network.specs.State.{heardOf, started}
@@ -101,7 +101,7 @@ module _ (n : Network) (s : State) where
   in-six r =
       subst (λ (step : Step). FromSix (n .partial) step
       (decision step (s .wanted) (finished n s) (any isRefusal (heardOf n s)) (reaches n s) (ownOutfit n)))
-      (sym (restarting-is (s .step) r)) (from-six (n .partial) (s .wanted) (finished n s) (any isRefusal (heardOf n s)) (reaches n s) (ownOutfit n))
+      (sym (numbered-is 6 (s .step) r)) (from-six (n .partial) (s .wanted) (finished n s) (any isRefusal (heardOf n s)) (reaches n s) (ownOutfit n))
 
   -- a tick in any step
   six-after : suits (ownOutfit n) (s .step) ≡ true → Kept n s

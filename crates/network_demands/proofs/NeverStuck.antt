@@ -13,7 +13,7 @@ use Rattle.steps.specs.declared.Outfit.{Outfit}
 use Rattle.steps.specs.declared.Move.{Move}
 use Rattle.steps.specs.Steps.{phaseOf, isRestarting}
 use Rattle.steps.specs.After.{stepAfter}
-use Rattle.steps.proofs.Laws.{restarting-is}
+use Rattle.steps.proofs.Laws.{numbered-is}
 use Rattle.network.specs.declared.State.{State}
 use Rattle.network.specs.State.{started}
 use Rattle.network.specs.Rules.{isLong, delayOf, outfitOf}
@@ -50,7 +50,7 @@ again-some : (n : Network) (s : State) → Counts n s → 0 < countedIn (s .step
 again-some n s i = split (λ (x : ℕ). 0 < x) (isRestarting (s .step)) (λ e. i (by-step (s .step) e)) (λ _. raised-some (s .count))
   where
     by-step : (step : Step) → isRestarting step ≡ true → recoveringPhase (phaseOf step) ≡ true
-    by-step step e = ap (λ (x : Step). recoveringPhase (phaseOf x)) (restarting-is step e)
+    by-step step e = ap (λ (x : Step). recoveringPhase (phaseOf x)) (numbered-is 6 step e)
 
 counts-more : (n : Network) → InRange n → (e : Seen) (h : OwnHistory) → Ran n (e ∷ h) → Counts n (stateOf n h) → Counts n (stateOf n (e ∷ h))
 unfolding stateOf Ran afterMove afterHit madeAnew

@@ -43,16 +43,24 @@ module _ (n : Network) (s : State) where
       → finished n s ≡ cond (s .asked) (every isOkay (heardOf n s)) false
   finished-just mode f = ap (λ (ask : Ask). cond (s .asked) (doneBy ask (heardOf n s) (reportHeard s)) false) f
 
-  -- one that asks the transceiver for something, just where it has asked and the report has come
+  -- a report is heard just where it has come
+  heard-just : reportHeard s ≡ s .reported
+  heard-just = by-test (s .reported) refl
+    where
+      by-test : (b : Bool) → s .reported ≡ b → reportHeard s ≡ b
+      by-test true q = rw (q) refl
+      by-test false q = rw (q) refl
+
+  -- a step that asks the transceiver for something is done just where it has asked and the report has come
   pub finished-reported : isErrand (asksFor (s .step)) ≡ true → finished n s ≡ cond (s .asked) (s .reported) false
   finished-reported f = ap (λ (done : Bool). cond (s .asked) done false) (by-ask (asksFor (s .step)) f)
     where
       by-ask : (ask : Ask) → isErrand ask ≡ true → doneBy ask (heardOf n s) (reportHeard s) ≡ s .reported
       by-ask Ask.Nothing f = absurd (false≢true f)
       by-ask (Ask.Controllers mode) f = absurd (false≢true f)
-      by-ask (Ask.Transceiver mode) f = refl
-      by-ask Ask.ClearWake f = refl
-      by-ask Ask.CheckWake f = refl
+      by-ask (Ask.Transceiver mode) f = heard-just
+      by-ask Ask.ClearWake f = heard-just
+      by-ask Ask.CheckWake f = heard-just
 
   -- a step is done only where it has asked
   pub finished-asked : finished n s ≡ true → s .asked ≡ true

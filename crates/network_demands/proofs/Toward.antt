@@ -1,12 +1,11 @@
 -- How far a network is from full, by its step: the ticks that are left, and the records that go out until then, where each tick goes on. What a tick
 -- that goes on decides, and that it comes one tick nearer.
-use Rattle.lists.proofs.Basics.{ℕ, zero, suc, _+_, _-_, _*_, _<_, _≤_, arith, leb-true, leb-false, lt-ltb, _≡_, refl, sym, Bool, true, false}
+use Rattle.lists.proofs.Basics.{ℕ, zero, suc, _+_, _-_, _*_, _<_, _≤_, arith, leb-true, leb-false, lt-ltb, _≡_, refl, sym, ap, _∙_, Bool, true, false}
 use Rattle.lists.proofs.Basics.{cond, not, _&&_, false≢true, true≢false, eqb, leb, length, length-map, length-append}
 use Rattle.lists.proofs.Tests.{split}
 use Rattle.records.specs.declared.ControllerMode.{ControllerMode}
 use Rattle.records.specs.declared.TransceiverMode.{TransceiverMode}
 use Rattle.records.specs.declared.Mode.{Mode}
-use Rattle.settings.specs.declared.Transceiver.{Transceiver}
 use Rattle.settings.specs.declared.Network.{Network}
 use Rattle.settings.specs.Settings.{controllersOf, listed}
 use Rattle.steps.specs.declared.Step.{Step}
@@ -19,15 +18,17 @@ use Rattle.steps.specs.declared.Move.{Move}
 use Rattle.steps.specs.declared.Move.the-variants.{Stay, AskAgain, Count, EnterFull, Pass, Wait, EnterNoCommunication, Enter}
 use Rattle.steps.specs.declared.Phase.{Phase}
 use Rattle.steps.specs.declared.Ask.{Ask}
-use Rattle.steps.specs.Steps.{stepNumber, phaseOf, timerOf, isOn, isUp, isFullStep, isAsking}
+use Rattle.steps.specs.Steps.{stepNumber, phaseOf, timerOf, onPhase, isOn, isUp, isFullStep, isAsking}
 use Rattle.steps.specs.Decision.{byPartial, byTransceiver, risen, isNo, decision}
 use Rattle.steps.specs.After.{stepAfter}
+use Rattle.steps.proofs.Laws.{InPhase, in-phase, numbered-is}
 use Rattle.handing.specs.Handing.{requests, entering, enteringFull, moveRecords}
 use Rattle.network.specs.Rules.{reachedBy}
 use Rattle.network.specs.Moving.{toldAfter}
+use Rattle.network_theorems.proofs.Moves.{full-quiet}
 use Rattle.network_demands.proofs.Tests.{isErrand}
 use Rattle.network_demands.proofs.Handed.{isEnd}
-use Rattle.network_demands.proofs.Arrows.{suits, hasRested}
+use Rattle.network_demands.proofs.Arrows.{suits, restedPhase, hasRested}
 
 -- ---- what is left, by the step
 -- one of three, by the outfit
@@ -57,24 +58,28 @@ ticksLeft outfit delay ResetStopped = 2
 ticksLeft outfit delay ResetStarted = 1
 
 -- the records that are left, of a network with c controllers that is not up
+abbrev recordsBelow : Outfit → ℕ → Step → ℕ
+recordsBelow outfit c NoCommunication = 3 * c + byTransceiver outfit 2 3
+recordsBelow outfit c TransceiverNormal = 3 * c + 2
+recordsBelow outfit c ControllersStopped = 2 * c + 2
+recordsBelow outfit c ControllersStarted = c + 2
+recordsBelow outfit c (Checking ticks) = 0
+recordsBelow outfit c Full = 0
+recordsBelow outfit c Restarting = 0
+recordsBelow outfit c (Waiting ticks) = 0
+recordsBelow outfit c Silent = 0
+recordsBelow outfit c ClearWake = 5 * c + 6
+recordsBelow outfit c DownStopped = 4 * c + byEach outfit 3 5 6
+recordsBelow outfit c TransceiverStandby = byPartial outfit (3 * c + 4) (4 * c + 5)
+recordsBelow outfit c ControllersSleep = 3 * c + byEach outfit 3 5 5
+recordsBelow outfit c CheckWake = 3 * c + 4
+recordsBelow outfit c CheckWakeAgain = 5 * c + 7
+recordsBelow outfit c ResetStopped = 0
+recordsBelow outfit c ResetStarted = 0
+
+-- of one that is up none is counted
 abbrev pub recordsLeft : Outfit → ℕ → Step → ℕ
-recordsLeft outfit c NoCommunication = 3 * c + byTransceiver outfit 2 3
-recordsLeft outfit c TransceiverNormal = 3 * c + 2
-recordsLeft outfit c ControllersStopped = 2 * c + 2
-recordsLeft outfit c ControllersStarted = c + 2
-recordsLeft outfit c (Checking ticks) = 0
-recordsLeft outfit c Full = 0
-recordsLeft outfit c Restarting = 0
-recordsLeft outfit c (Waiting ticks) = 0
-recordsLeft outfit c Silent = 0
-recordsLeft outfit c ClearWake = 5 * c + 6
-recordsLeft outfit c DownStopped = 4 * c + byEach outfit 3 5 6
-recordsLeft outfit c TransceiverStandby = byPartial outfit (3 * c + 4) (4 * c + 5)
-recordsLeft outfit c ControllersSleep = 3 * c + byEach outfit 3 5 5
-recordsLeft outfit c CheckWake = 3 * c + 4
-recordsLeft outfit c CheckWakeAgain = 5 * c + 7
-recordsLeft outfit c ResetStopped = 0
-recordsLeft outfit c ResetStarted = 0
+recordsLeft outfit c step = cond (isUp step) 0 (recordsBelow outfit c step)
 
 -- ---- the move of a tick that goes on
 abbrev pub onward : Outfit → Bool → Step → Move
@@ -241,23 +246,7 @@ none-left ResetStarted outfit delay = refl
 
 -- in a full step nothing is left to hand out
 pub full-handed : (step : Step) (outfit : Outfit) (c : ℕ) → isFullStep step ≡ true → recordsLeft outfit c step ≡ 0
-full-handed NoCommunication outfit c e = absurd (false≢true e)
-full-handed TransceiverNormal outfit c e = absurd (false≢true e)
-full-handed ControllersStopped outfit c e = absurd (false≢true e)
-full-handed ControllersStarted outfit c e = absurd (false≢true e)
-full-handed (Checking ticks) outfit c e = refl
-full-handed Full outfit c e = refl
-full-handed Restarting outfit c e = absurd (false≢true e)
-full-handed (Waiting ticks) outfit c e = absurd (false≢true e)
-full-handed Silent outfit c e = absurd (false≢true e)
-full-handed ClearWake outfit c e = absurd (false≢true e)
-full-handed DownStopped outfit c e = absurd (false≢true e)
-full-handed TransceiverStandby outfit c e = absurd (false≢true e)
-full-handed ControllersSleep outfit c e = absurd (false≢true e)
-full-handed CheckWake outfit c e = absurd (false≢true e)
-full-handed CheckWakeAgain outfit c e = absurd (false≢true e)
-full-handed ResetStopped outfit c e = absurd (false≢true e)
-full-handed ResetStarted outfit c e = absurd (false≢true e)
+full-handed step outfit c e = ap (λ (up : Bool). cond up 0 (recordsBelow outfit c step)) (full-quiet step e .up)
 
 -- ---- what is told on the way, and that no network on its way goes down
 -- until full is told, the told mode stays, but that of a network that comes to rest
@@ -318,42 +307,21 @@ keeps-rested ResetStarted outfit reached partial f = refl
 -- ---- a network at rest
 -- step 0 is the one that came to rest and is not on
 pub rest-number : (step : Step) → hasRested step && not (isOn step) ≡ eqb 0 (stepNumber step)
-rest-number NoCommunication = refl
-rest-number TransceiverNormal = refl
-rest-number ControllersStopped = refl
-rest-number ControllersStarted = refl
-rest-number (Checking ticks) = refl
-rest-number Full = refl
-rest-number Restarting = refl
-rest-number (Waiting ticks) = refl
-rest-number Silent = refl
-rest-number ClearWake = refl
-rest-number DownStopped = refl
-rest-number TransceiverStandby = refl
-rest-number ControllersSleep = refl
-rest-number CheckWake = refl
-rest-number CheckWakeAgain = refl
-rest-number ResetStopped = refl
-rest-number ResetStarted = refl
+rest-number step = by-test (eqb 0 (stepNumber step)) refl
+  where
+    by-phase : (phase : Phase) → InPhase phase step → eqb 0 (stepNumber step) ≡ false → restedPhase phase && not (onPhase phase) ≡ false
+    by-phase Phase.Off i e = absurd (true≢false (sym (ap (λ (x : Step). eqb 0 (stepNumber x)) i) ∙ e))
+    by-phase Phase.Rising i e = refl
+    by-phase Phase.Checking i e = refl
+    by-phase Phase.Full i e = refl
+    by-phase Phase.Recovering i e = refl
+    by-phase Phase.Silent i e = refl
+    by-phase Phase.Falling i e = refl
+    by-phase Phase.Resetting i e = refl
 
-pub zero-step : (step : Step) → eqb 0 (stepNumber step) ≡ true → step ≡ NoCommunication
-zero-step NoCommunication e = refl
-zero-step TransceiverNormal e = absurd (false≢true e)
-zero-step ControllersStopped e = absurd (false≢true e)
-zero-step ControllersStarted e = absurd (false≢true e)
-zero-step (Checking ticks) e = absurd (false≢true e)
-zero-step Full e = absurd (false≢true e)
-zero-step Restarting e = absurd (false≢true e)
-zero-step (Waiting ticks) e = absurd (false≢true e)
-zero-step Silent e = absurd (false≢true e)
-zero-step ClearWake e = absurd (false≢true e)
-zero-step DownStopped e = absurd (false≢true e)
-zero-step TransceiverStandby e = absurd (false≢true e)
-zero-step ControllersSleep e = absurd (false≢true e)
-zero-step CheckWake e = absurd (false≢true e)
-zero-step CheckWakeAgain e = absurd (false≢true e)
-zero-step ResetStopped e = absurd (false≢true e)
-zero-step ResetStarted e = absurd (false≢true e)
+    by-test : (b : Bool) → eqb 0 (stepNumber step) ≡ b → hasRested step && not (isOn step) ≡ b
+    by-test true e = ap (λ (x : Step). hasRested x && not (isOn x)) (numbered-is 0 step e)
+    by-test false e = by-phase (phaseOf step) (in-phase step) e
 
 -- ---- a network that is not up
 -- one with more ticks left than a network at rest goes down

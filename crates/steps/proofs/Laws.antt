@@ -1,6 +1,11 @@
 -- Laws by cases of the step, for the crates above: each says once what a new step has to answer.
+use Prim.Native.Nat.{ℕ}
 use mathlib.Core.Path.{_≡_, refl, sym, ap, _∙_}
+use mathlib.Core.List.{[], _∷_}
 use mathlib.Core.Bool.{Bool, true, false, true≢false, false≢true}
+use lib.Dec.{eqb}
+use lib.ListN.{getD}
+use borrow.Author.Tests.{eqb-true}
 use Rattle.records.specs.declared.Mode.{Mode}
 use Rattle.steps.specs.declared.Step.{Step}
 use Rattle.steps.specs.declared.Step.the-variants.{NoCommunication, TransceiverNormal, ControllersStopped, ControllersStarted}
@@ -10,7 +15,7 @@ use Rattle.steps.specs.declared.Step.the-variants.{ResetStopped, ResetSt
 use Rattle.steps.specs.declared.Phase.{Phase}
 use Rattle.steps.specs.declared.Ask.{Ask}
 use Rattle.steps.specs.declared.Outfit.{Outfit}
-use Rattle.steps.specs.Steps.{phaseOf, asksFor, isRestarting, asksToStart, asksToSleep}
+use Rattle.steps.specs.Steps.{stepNumber, phaseOf, asksFor, isRestarting, asksToStart, asksToSleep}
 use Rattle.steps.specs.Decision.{decision}
 
 -- ---- phaseOf
@@ -46,32 +51,41 @@ in-phase ResetStopped = λ e. refl
 in-phase ResetStarted = λ e. absurd (true≢false e)
 
 -- ---- stepNumber
--- step 6 is the one that has this number
-pub restarting-is : (step : Step) → isRestarting step ≡ true → step ≡ Restarting
-restarting-is NoCommunication e = absurd (false≢true e)
-restarting-is TransceiverNormal e = absurd (false≢true e)
-restarting-is ControllersStopped e = absurd (false≢true e)
-restarting-is ControllersStarted e = absurd (false≢true e)
-restarting-is (Checking t) e = absurd (false≢true e)
-restarting-is Full e = absurd (false≢true e)
-restarting-is Restarting e = refl
-restarting-is (Waiting t) e = absurd (false≢true e)
-restarting-is Silent e = absurd (false≢true e)
-restarting-is ClearWake e = absurd (false≢true e)
-restarting-is DownStopped e = absurd (false≢true e)
-restarting-is TransceiverStandby e = absurd (false≢true e)
-restarting-is ControllersSleep e = absurd (false≢true e)
-restarting-is CheckWake e = absurd (false≢true e)
-restarting-is CheckWakeAgain e = absurd (false≢true e)
-restarting-is ResetStopped e = absurd (false≢true e)
-restarting-is ResetStarted e = absurd (false≢true e)
+-- the steps in the order of their numbers; 4 and 7, which have ticks, are the step itself
+abbrev pub numbered : ℕ → Step → Step
+numbered number step =
+    getD (NoCommunication ∷ TransceiverNormal ∷ ControllersStopped ∷ ControllersStarted ∷ step ∷ Full ∷ Restarting ∷ step ∷ Silent ∷ ClearWake
+    ∷ DownStopped ∷ TransceiverStandby ∷ ControllersSleep ∷ CheckWake ∷ CheckWakeAgain ∷ ResetStopped ∷ ResetStarted ∷ []) number step
+
+by-number : (step : Step) → numbered (stepNumber step) step ≡ step
+by-number NoCommunication = refl
+by-number TransceiverNormal = refl
+by-number ControllersStopped = refl
+by-number ControllersStarted = refl
+by-number (Checking t) = refl
+by-number Full = refl
+by-number Restarting = refl
+by-number (Waiting t) = refl
+by-number Silent = refl
+by-number ClearWake = refl
+by-number DownStopped = refl
+by-number TransceiverStandby = refl
+by-number ControllersSleep = refl
+by-number CheckWake = refl
+by-number CheckWakeAgain = refl
+by-number ResetStopped = refl
+by-number ResetStarted = refl
+
+-- a step is the one that has its number
+pub numbered-is : (number : ℕ) (step : Step) → eqb number (stepNumber step) ≡ true → step ≡ numbered number step
+numbered-is number step e = sym (by-number step) ∙ ap (λ (k : ℕ). numbered k step) (sym (eqb-true number (stepNumber step) e))
 
 -- so a step that passes a test which step 6 does not pass is another one
 pub not-restarting : (step : Step) (p : Step → Bool) → p Restarting ≡ false → p step ≡ true → isRestarting step ≡ false
 not-restarting step p z e = by-test (isRestarting step) refl
   where
     by-test : (b : Bool) → isRestarting step ≡ b → b ≡ false
-    by-test true r = absurd (false≢true (sym z ∙ ap p (sym (restarting-is step r)) ∙ e))
+    by-test true r = absurd (false≢true (sym z ∙ ap p (sym (numbered-is 6 step r)) ∙ e))
     by-test false r = refl
 
 -- ---- decision
