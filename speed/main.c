@@ -1,6 +1,6 @@
 /* Runs one kind of work on one side:  work SIDE WORK NETWORKS CONTROLLERS ROUNDS [REPEATS]
    SIDE      proved, yardstick
-   WORK      resting, busy, answers, closed
+   WORK      resting, busy, listening, answers, closed
    It prints the sum of what was handed out, and of REPEATS runs the best time of a round in nanoseconds. */
 #define _POSIX_C_SOURCE 200809L
 #include "work.h"
@@ -16,11 +16,15 @@ static const struct {
 } WORKS[] = {
     { "proved", "resting", proved_ticks, CALM },     { "yardstick", "resting", yardstick_ticks, CALM },
     { "proved", "busy", proved_ticks, DEAF },        { "yardstick", "busy", yardstick_ticks, DEAF },
+    { "proved", "listening", proved_quiet_ticks, DEAF },
+    { "yardstick", "listening", yardstick_quiet_ticks, DEAF },
     { "proved", "answers", proved_answers, -1 },     { "yardstick", "answers", yardstick_answers, -1 },
     { "proved", "closed", proved_play, RESTLESS },   { "yardstick", "closed", yardstick_play, RESTLESS },
     /* for the checksums: the same boxes, and every record handed out goes into the sum */
     { "proved", "calm-box", proved_play, CALM },     { "yardstick", "calm-box", yardstick_play, CALM },
     { "proved", "deaf-box", proved_play, DEAF },     { "yardstick", "deaf-box", yardstick_play, DEAF },
+    { "proved", "quiet-box", proved_quiet_play, RESTLESS },
+    { "yardstick", "quiet-box", yardstick_quiet_play, RESTLESS },
 };
 
 static double seconds(void) {

@@ -11,6 +11,8 @@ enum { NO, SILENT, FULL };
 enum { ASK_NOTHING, ASK_CONTROLLERS, ASK_TRANSCEIVER, ASK_CLEAR, ASK_CHECK };
 /* H5 to H12: the kinds of records. */
 enum { CONTROLLER = 1, TRANSCEIVER, PDU, CLEAR, CHECK, TELL, NOTE, REPORT };
+/* H7: the arguments of kind 3. */
+enum { ONLINE, TX_OFFLINE, TX_OFFLINE_ACTIVE };
 /* R7, R9 to R15: the refusals of these calls. */
 enum {
     NOT_READY = 1, NO_HANDLE = 3, NO_CONTROLLER, NO_TRANSCEIVER, ASLEEP = 8, TOO_SHORT = 0x20, OUT_OF_RANGE, NOT_TAKEN, COMING_UP = 0x24, GOING_DOWN
@@ -27,7 +29,13 @@ static const uint8_t MODES[] = { 0, 0, 0, 1, 0, 0, 1, 0, 0, 0, 0, 1, 2, 0, 0, 0,
 struct records {
     uint8_t *out;
     size_t count;
+    /* L2: the argument with which online goes out */
+    uint8_t online;
 };
+
+static inline struct records records_of(const struct manager *manager, uint8_t *out) {
+    return (struct records){ out, 0, manager->listening ? TX_OFFLINE_ACTIVE : ONLINE };
+}
 
 /* H1, H2: a record is written behind the last one. */
 static inline void put(struct records *to, uint8_t kind, uint8_t target, uint8_t argument) {
@@ -58,6 +66,9 @@ static inline void move(struct network *network, uint8_t step) {
 
 /* N4: up are steps 4 to 8, 15 and 16. */
 static inline int is_up(uint8_t step) { return (step >= CHECKING && step <= SILENT_STEP) || step >= RESET_STOPPED; }
+
+/* L3, L6: the steps in which each controller was last handed online are 4, 5, 15 and 16. */
+static inline int is_online(uint8_t step) { return step == CHECKING || step == FULL_STEP || step >= RESET_STOPPED; }
 
 /* T3: the steps from which a network goes down are those that come up and those that are up. */
 static inline int can_go_down(uint8_t step) { return (step >= TRANSCEIVER_NORMAL && step <= SILENT_STEP) || step >= RESET_STOPPED; }
@@ -93,7 +104,7 @@ static void enter(struct records *to, struct network *network, uint8_t step) {
 
 /* T23: step 4 with 0 ticks. */
 static void enter_full(struct records *to, struct network *network) {
-    put_each(to, network, PDU, 0);
+    put_each(to, network, PDU, to->online);
     tell(to, network, FULL);
     put(to, NOTE, network->handle, 2);
     move(network, CHECKING);
@@ -101,7 +112,7 @@ static void enter_full(struct records *to, struct network *network) {
 
 /* T24: step 8. */
 static void enter_silent(struct records *to, struct network *network) {
-    put_each(to, network, PDU, 1);
+    put_each(to, network, PDU, TX_OFFLINE);
     tell(to, network, SILENT);
     put(to, NOTE, network->handle, 1);
     move(network, SILENT_STEP);
@@ -175,7 +186,7 @@ static void tick_network(struct records *to, struct network *network) {
     /* T11: all controllers run. */
     case RESTARTING:
         if (is_done(network)) {
-            put_each(to, network, PDU, 1);
+            put_each(to, network, PDU, TX_OFFLINE);
             move(network, WAITING);
         } else {
             ask(to, network);
@@ -226,7 +237,7 @@ static void tick_network(struct records *to, struct network *network) {
 struct outcome manager_tick(struct manager *manager, uint8_t *out, size_t room) {
     if (!manager->started) return (struct outcome){ NOT_READY, 0 };
     if (room < manager->tick_room) return (struct outcome){ TOO_SHORT, 0 };
-    struct records to = { out, 0 };
+    struct records to = records_of(manager, out);
     for (unsigned i = 0; i < manager->count; i++) tick_network(&to, &manager->network[i]);
     return (struct outcome){ 0, to.count };
 }
@@ -238,7 +249,7 @@ struct outcome manager_bus_off(struct manager *manager, uint8_t id, uint8_t *out
     unsigned found = manager->by_controller[id];
     if (!found) return (struct outcome){ NO_CONTROLLER, 0 };
     struct network *network = &manager->network[(found - 1) / MOST_CONTROLLERS];
-    struct records to = { out, 0 };
+    struct records to = records_of(manager, out);
     if (is_up(network->step)) {
         if (network->step != RESTARTING && network->bus_offs < 255) network->bus_offs++;
         put(&to, REPORT, network->handle, 1);
@@ -261,9 +272,24 @@ struct outcome manager_stall(struct manager *manager, uint8_t handle, uint8_t *o
     if (!found) return (struct outcome){ NO_HANDLE, 0 };
     struct network *network = &manager->network[found - 1];
     if (network->step != CHECKING && network->step != FULL_STEP) return (struct outcome){ NOT_TAKEN, 0 };
-    struct records to = { out, 0 };
+    struct records to = records_of(manager, out);
     tell(&to, network, SILENT);
     move(network, RESET_STOPPED);
+    return (struct outcome){ 0, to.count };
+}
+
+/* R7, R9, R13, R24, L1 to L4: listening is set or cleared, and online goes out anew where that changes it. */
+struct outcome manager_listen(struct manager *manager, uint8_t value, uint8_t *out, size_t room) {
+    if (!manager->started) return (struct outcome){ NOT_READY, 0 };
+    if (room < manager->listen_room) return (struct outcome){ TOO_SHORT, 0 };
+    if (value > 1) return (struct outcome){ OUT_OF_RANGE, 0 };
+    if (value == manager->listening) return (struct outcome){ 0, 0 };
+    manager->listening = value;
+    struct records to = records_of(manager, out);
+    for (unsigned i = 0; i < manager->count; i++) {
+        const struct network *network = &manager->network[i];
+        if (is_online(network->step)) put_each(&to, network, PDU, to.online);
+    }
     return (struct outcome){ 0, to.count };
 }
 
@@ -361,7 +387,7 @@ static void take_field(struct manager *manager, struct network *network, uint8_t
     }
 }
 
-/* R16, N7, N8: every network in its first down step, and the room of a tick. */
+/* R16, R24, N7, N8, L5: every network in its first down step, without listening; and the room of a tick and of a call to listen. */
 void manager_start(struct manager *manager, const uint8_t *sheet, size_t length) {
     memset(manager, 0, sizeof *manager);
     for (size_t at = 0; at + 3 <= length; at += 3u + number(sheet + at + 1)) {
@@ -372,6 +398,7 @@ void manager_start(struct manager *manager, const uint8_t *sheet, size_t length)
         struct network *network = &manager->network[i];
         network->step = network->partial ? CLEAR_WAKE : DOWN_STOPPED;
         manager->tick_room += RECORD * (network->controllers + 2);
+        manager->listen_room += RECORD * network->controllers;
     }
     manager->started = 1;
 }

@@ -16,8 +16,9 @@ struct network {
 };
 
 struct manager {
-    uint8_t started, count;
-    uint16_t tick_room;
+    /* L1: whether the manager listens is kept beside the networks */
+    uint8_t started, count, listening;
+    uint16_t tick_room, listen_room;
     struct network network[MOST_NETWORKS];
     /* by id: 0 where nobody has it, else 1 + the network (of a controller: 1 + 4 x the network + its place there) */
     uint8_t by_handle[IDS], by_controller[IDS], by_transceiver[IDS];
@@ -34,6 +35,7 @@ void manager_start(struct manager *manager, const uint8_t *sheet, size_t length)
 struct outcome manager_tick(struct manager *manager, uint8_t *out, size_t room);
 struct outcome manager_bus_off(struct manager *manager, uint8_t id, uint8_t *out, size_t room);
 struct outcome manager_stall(struct manager *manager, uint8_t handle, uint8_t *out, size_t room);
+struct outcome manager_listen(struct manager *manager, uint8_t value, uint8_t *out, size_t room);
 uint8_t manager_controller_answer(struct manager *manager, uint8_t id, uint8_t mode, uint8_t okay);
 uint8_t manager_transceiver_mode(struct manager *manager, uint8_t id, uint8_t mode);
 uint8_t manager_clear_done(struct manager *manager, uint8_t id);

@@ -22,11 +22,11 @@ from typing import Callable, Dict, List, NoReturn, Optional, Tuple
 
 ROOT = Path(__file__).resolve().parent.parent
 SIDES = ("proved", "yardstick")
-WORKS = ("resting", "busy", "answers", "closed")
+WORKS = ("resting", "busy", "listening", "answers", "closed")
 # work in which every record handed out goes into the sum
-SUMMED = ("calm-box", "deaf-box", "answers", "closed")
+SUMMED = ("calm-box", "deaf-box", "quiet-box", "answers", "closed")
 FEW, MANY = 1000, 5000
-TIMED_ROUNDS = {"resting": 1_000_000, "busy": 500_000, "answers": 1_000_000, "closed": 60_000}
+TIMED_ROUNDS = {"resting": 1_000_000, "busy": 500_000, "listening": 500_000, "answers": 1_000_000, "closed": 60_000}
 EMULATOR_SHARE = 10
 TIMES = 7
 STACK_ROUNDS = 3_000_000

@@ -4,7 +4,7 @@
 #include <stdio.h>
 #include "manager.h"
 
-enum { REQUEST = 0x10, BUS_OFF, ANSWER, TRANSCEIVER_MODE, CLEAR_DONE, CHECK_DONE, TICK, POLL, STALL };
+enum { REQUEST = 0x10, BUS_OFF, ANSWER, TRANSCEIVER_MODE, CLEAR_DONE, CHECK_DONE, TICK, POLL, STALL, LISTEN };
 enum { HEAD = 3, LENGTH = 4, LARGEST = 65536, ROOM = 144, NO_HANDLE = 3 };
 
 static uint8_t recording[LARGEST];
@@ -24,6 +24,7 @@ static struct outcome make(struct manager *manager, uint8_t tag, const uint8_t *
     case CHECK_DONE: outcome.answer = manager_check_done(manager, value[0]); break;
     case TICK: outcome = manager_tick(manager, out, ROOM); break;
     case STALL: outcome = manager_stall(manager, value[0], out, ROOM); break;
+    case LISTEN: outcome = manager_listen(manager, value[0], out, ROOM); break;
     }
     return outcome;
 }

@@ -61,6 +61,23 @@ uint32_t yardstick_ticks(const uint8_t *sheet, size_t length, uint8_t style, uin
     return sum;
 }
 
+uint32_t yardstick_quiet_play(const uint8_t *sheet, size_t length, uint8_t style, uint64_t rounds, uint8_t *out) {
+    static struct manager manager;
+    manager_start(&manager, sheet, length);
+    manager_listen(&manager, 1, out, ROOM);
+    return play(&manager, style, rounds, out);
+}
+
+uint32_t yardstick_quiet_ticks(const uint8_t *sheet, size_t length, uint8_t style, uint64_t rounds, uint8_t *out) {
+    static struct manager manager;
+    uint32_t sum = 0;
+    manager_start(&manager, sheet, length);
+    manager_listen(&manager, 1, out, ROOM);
+    play(&manager, style, SETTLING, out);
+    for (uint64_t round = 0; round < rounds; round++) sum = mix(sum, (uint8_t)manager_tick(&manager, out, ROOM).count);
+    return sum;
+}
+
 uint32_t yardstick_answers(const uint8_t *sheet, size_t length, uint8_t controllers, uint64_t rounds, uint8_t *out) {
     static struct manager manager;
     uint32_t sum = 0;

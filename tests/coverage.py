@@ -8,6 +8,8 @@ transitions   each step and next step that a tick, a bus-off or a stall can make
 decisions     each thing that a tick can find: what the model's `next_step` is given
 counts        each step that takes a bus-off, and whether one is counted there
 delays        which delay ends, where the count is below the threshold, at it and above it, by each of the two rules
+listens       each step in which listening is set and cleared, whether that changes anything, and whether kind 3 is handed out for it
+sending       what a tick hands out of kind 3, by the step that it finds and by whether the manager listens
 answers       each number that reading the sheet or an event can be answered with
 refusals      the refusal numbers among the answers
 fields        each refusal of a sheet that its field of a tag can have, where the refusal stands at the field
@@ -42,6 +44,7 @@ EVENT_NAMES = {
     EventTag.TICK: "tick",
     EventTag.POLL: "poll",
     EventTag.STALL: "stall",
+    EventTag.LISTEN: "listen",
 }
 MOVING_EVENTS = (EventTag.TICK, EventTag.BUS_OFF, EventTag.STALL)
 
@@ -73,6 +76,23 @@ class Place(NamedTuple):
     distance: int
     zeros: Tuple[int, ...]
     later: bool
+
+
+class Listened(NamedTuple):
+    """A call to listen finds a network in a step: whether it sets or clears, whether that is a change, whether kind 3 goes to its controllers."""
+
+    sets: bool
+    changes: bool
+    step: int
+    handed: bool
+
+
+class Sending(NamedTuple):
+    """A tick hands out kind 3 with this argument to a network that it finds in this step, while the manager listens or not."""
+
+    step: int
+    listening: bool
+    argument: int
 
 
 class Transition(NamedTuple):
@@ -108,6 +128,7 @@ POSSIBLE_ANSWERS = {
     EventTag.TICK: (model.ACCEPTED,),
     EventTag.POLL: (model.ACCEPTED, Refusal.UNKNOWN_HANDLE),
     EventTag.STALL: (model.ACCEPTED, Refusal.UNKNOWN_HANDLE, Refusal.NOT_TAKEN),
+    EventTag.LISTEN: (model.ACCEPTED, Refusal.VALUE_OUT_OF_RANGE),
 }
 
 # S15 to S23, S27: what a field of each tag can be refused with, where it is the field that is at fault.
@@ -132,6 +153,13 @@ POSSIBLE_DELAYS = (
     Delay("newer", "below", "short"), Delay("newer", "at", "long"), Delay("newer", "above", "long"),
 )
 
+# L3: the steps in which a change of listening is handed out.
+HANDING_STEPS = (Step.CHECKING, Step.FULL, Step.RESET_STOPPED, Step.RESET_STARTED)
+# T7, T13, T14, T30: the steps from which a tick enters full.
+STEPS_TO_FULL = (Step.CONTROLLERS_STARTED, Step.WAITING, Step.SILENT, Step.RESET_STARTED)
+# T8, T11, T13, T30: the steps from which it enters silent or begins the wait, and so sets the controllers TX offline.
+STEPS_TO_TX_OFFLINE = (Step.CHECKING, Step.FULL, Step.RESTARTING, Step.WAITING, Step.RESET_STARTED)
+
 # The refusal numbers of the rules that the program cannot give, and why.
 UNREACHABLE_REFUSALS = {
     Refusal.NOT_READY: "the program makes every call on a started manager",
@@ -143,7 +171,7 @@ UNREACHABLE_REFUSALS = {
 ARGUMENTS_OF_KIND = {
     model.Kind.CONTROLLER_MODE: 3,
     model.Kind.TRANSCEIVER_MODE: 2,
-    model.Kind.PDU_MODE: 2,
+    model.Kind.PDU_MODE: 3,
     model.Kind.CLEAR_WAKE_FLAG: 1,
     model.Kind.CHECK_WAKE_FLAG: 1,
     model.Kind.COMMUNICATION_MANAGER: 3,
@@ -165,7 +193,7 @@ class Ending:
     SHEET_REFUSED = "sheet refused"
     HEADER_CUT = "stop, header cut"
     TAG_BELOW = "stop, tag below 10"
-    TAG_UNKNOWN = "stop, tag above 18"
+    TAG_UNKNOWN = "stop, tag above 19"
     LENGTH_ABOVE = "stop, length above that of the tag"
     LENGTH_BELOW = "stop, length below that of the tag"
     VALUE_CUT = "stop, value cut"
@@ -226,6 +254,22 @@ def possible_places() -> Iterator[Place]:
                 yield Place(tag, Refusal.SHEET_OUT_OF_RANGE, 3, (), later)
         for zeros, distance in DISTANCE_OF_ZEROS.items():
             yield Place(Tag.TIMES, Refusal.SHEET_OUT_OF_RANGE, distance, zeros, later)
+
+
+def possible_listens() -> Iterator[Listened]:
+    """Listening can be set and cleared in every step, with a change or without; in some a change is handed out."""
+    for step in model.ALL_STEPS:
+        for sets in (False, True):
+            yield Listened(sets, False, step, False)
+            yield Listened(sets, True, step, step in HANDING_STEPS)
+
+
+def possible_sending() -> Iterator[Sending]:
+    """What ticks hand out of kind 3."""
+    # L2: online as 2 while the manager listens, and TX offline as ever
+    for listening, online in ((False, model.PduMode.ONLINE), (True, model.PduMode.TX_OFFLINE_ACTIVE)):
+        yield from (Sending(step, listening, online) for step in STEPS_TO_FULL)
+        yield from (Sending(step, listening, model.PduMode.TX_OFFLINE) for step in STEPS_TO_TX_OFFLINE)
 
 
 def stall_transitions(outfit: int, step: int) -> Iterator[Transition]:
@@ -295,6 +339,8 @@ def possible() -> Dict[str, FrozenSet]:
         "decisions": frozenset(possible_situations()),
         "counts": frozenset(possible_counts()),
         "delays": frozenset(POSSIBLE_DELAYS),
+        "listens": frozenset(possible_listens()),
+        "sending": frozenset(possible_sending()),
         "answers": answers,
         "refusals": frozenset(answer for _, answer in answers if answer != model.ACCEPTED),
         "fields": fields,
@@ -329,6 +375,11 @@ def ending_delay(network: model.NetworkRecord) -> Optional[Delay]:
     place = "below" if count < settings.threshold else "at" if count == settings.threshold else "above"
     name = "long" if network.tick_count + 1 == settings.long_delay else "short"
     return Delay(RULE_NAMES[settings.relation], place, name)
+
+
+def modes_handed(network: model.NetworkRecord, records: List[model.Record]) -> List[int]:
+    """The arguments of kind 3 that go to the controllers of this network."""
+    return [argument for kind, target, argument in records if kind == model.Kind.PDU_MODE and target in network.settings.controllers]
 
 
 def stop_reason(data: bytes, place: int) -> str:
@@ -411,6 +462,17 @@ class Reached:
         """A tick ended these delays, one of each network where it ended one."""
         self.times["delays"].update(delay for delay in delays if delay is not None)
 
+    def note_listen(self, listened: bool, manager: model.Manager, records: List[model.Record]) -> None:
+        """A call to listen was accepted, and handed out these records; before it the manager listened or not."""
+        changes = manager.listening != listened
+        self.times["listens"].update(
+            Listened(manager.listening, changes, network.step, bool(modes_handed(network, records))) for network in manager.networks
+        )
+
+    def note_sending(self, step: int, listening: bool, modes: List[int]) -> None:
+        """A tick found a network in this step, and handed out kind 3 with these arguments to its controllers."""
+        self.times["sending"].update(Sending(step, listening, mode) for mode in set(modes))
+
     def note_field(self, data: bytes, answer: int, place: int) -> None:
         """A sheet was refused at this place, where a field of the table may stand."""
         starts = field_starts(data, place)
@@ -452,14 +514,19 @@ def watched_cantrace(data: bytes, reached: Reached) -> str:
         found = [situation_of(network) for network in moving]
         counted = [network.bus_off_count for network in moving]
         delays = [ending_delay(network) for network in moving] if tag == EventTag.TICK else []
+        listened = manager.listening
         outcome = plain_run_event(manager, tag, value)
         reached.note_event(tag, outcome)
         if outcome.answer == model.ACCEPTED:
             reached.note_delays(delays)
+            if tag == EventTag.LISTEN:
+                reached.note_listen(listened, manager, outcome.records)
             for situation, count, network in zip(found, counted, moving):
                 reached.note_transition(tag, situation, network.step)
                 if tag == EventTag.BUS_OFF:
                     reached.note_count(situation.step, count, network.bus_off_count)
+                if tag == EventTag.TICK:
+                    reached.note_sending(situation.step, manager.listening, modes_handed(network, outcome.records))
         return outcome
 
     with mock.patch.object(model, "run_event", run_event):
@@ -501,6 +568,22 @@ def delay_words(delay: Delay) -> str:
     return f"{delay.rule} rule, {delay.count} the threshold, the {delay.name} delay"
 
 
+def change_words(changes: bool) -> str:
+    """Whether a call to listen changes anything, in words."""
+    return "a change" if changes else "no change"
+
+
+def listened_words(listened: Listened) -> str:
+    """A call to listen in words, such as 'listening set in step 4, a change, handed out'."""
+    name = "set" if listened.sets else "cleared"
+    return f"listening {name} in step {listened.step}, {change_words(listened.changes)}, {yes_or_no('handed out', listened.handed)}"
+
+
+def sending_words(sending: Sending) -> str:
+    """What a tick hands out of kind 3 in words, such as 'a tick in step 7, not listening, argument 1'."""
+    return f"a tick in step {sending.step}, {yes_or_no('listening', sending.listening)}, argument {sending.argument}"
+
+
 def place_words(place: Place) -> str:
     """Where a refusal points, in words, such as '34 points 5 behind tag 04, times 2, 3 zero, later network'."""
     zeros = f", times {', '.join(map(str, place.zeros))} zero" if place.zeros else ""
@@ -525,6 +608,10 @@ def words_of(name: str, thing: object) -> str:
         return f"a bus-off in step {thing[0]}, {yes_or_no('counted', thing[1])}"
     if name == "delays":
         return delay_words(thing)
+    if name == "listens":
+        return listened_words(thing)
+    if name == "sending":
+        return sending_words(thing)
     if name == "records":
         return f"kind {thing[0]} argument {thing[1]}"
     return str(thing)
@@ -578,6 +665,16 @@ def transition_rows(reached: Reached) -> Iterator[str]:
             yield from rows(f"{move.step}>{move.next_step}: {times[move]}" for move in chosen)
 
 
+def listen_rows(reached: Reached) -> Iterator[str]:
+    """How often listening was set and cleared in each step, with a change and without; a plus stands where kind 3 is handed out."""
+    times = reached.times["listens"]
+    for sets in (True, False):
+        for changes in (True, False):
+            yield f"listening {'set' if sets else 'cleared'}, {change_words(changes)}, step and + where kind 3 is handed out: times"
+            chosen = [each for each in sorted(possible()["listens"]) if (each.sets, each.changes) == (sets, changes)]
+            yield from rows(f"{each.step}{'+' if each.handed else ''}: {times[each]}" for each in chosen)
+
+
 def answer_rows(reached: Reached) -> Iterator[str]:
     """How often each number was the answer, by event; the numbers are hexadecimal as in the rules."""
     yield "answers, number: times"
@@ -626,6 +723,10 @@ def table(reached: Reached) -> List[str]:
     lines.append("delays that came to their end, by the rule and by the count: times")
     delays = reached.times["delays"]
     lines += [f"  {delay_words(delay)}: {delays[delay]}" for delay in POSSIBLE_DELAYS]
+    lines += listen_rows(reached)
+    lines.append("kind 3 of a tick, by the step and by listening: times")
+    sending = reached.times["sending"]
+    lines += rows(f"{sending_words(each)}: {sending[each]}" for each in sorted(possible()["sending"]))
     lines += answer_rows(reached)
     lines.append("fields of a sheet, tag and the number that it was refused with: times")
     fields = reached.times["fields"]

@@ -180,7 +180,7 @@ def field_07_cases() -> Iterator[Case]:
     for words, sheet, last_line in DAMAGED_BY_FIELD_07:
         yield Case(f"damaged sheet: {words}", sheet + TICK, last_line)
     yield Case("the sheet and a field of tag 08 that swallows all events", SHEET + bytes.fromhex("08000c") + TICK * 4, "config 49 25")
-    yield Case("the sheet with field 07, and an event of tag 19", SHEET + NEWER_RULE + bytes.fromhex("190000"), "stop 29")
+    yield Case("the sheet with field 07, and a listen of length 0", SHEET + NEWER_RULE + bytes.fromhex("190000"), "stop 29")
     yield Case("field 07 as an event", SHEET + TICK + NEWER_RULE, "stop 28")
     yield Case("a transceiver without its value", SHEET[:8] + TRANSCEIVER[:3], "config 48 8")
     yield Case("the largest sheet of all, and a tick that is cut", LARGEST_OF_ALL + TICK[:2], "stop 360")
@@ -288,20 +288,32 @@ CUT_LATER_EVENTS = [
     ("a stall of length 2, which overruns", "180002aa"),
 ]
 
-# Fields about a stall, and those of the tags behind it.
+# Fields about a stall, and one of the tag behind it.
 BAD_STALLS = [
     ("stall of length 2", "1800020707"),
     ("stall of length 257", "180101" + "07" * 257),
     ("stall of length 65,535, which overruns", "18ffff07"),
-    ("tag 19", "190000"),
-    ("tag 19 of length 1", "19000107"),
-    ("tag 1f", "1f000107"),
+    ("listen of length 0", "190000"),
 ]
 CUT_STALLS = [
     ("a lone 18", "18"),
     ("a stall with half a length", "1800"),
     ("a stall without its handle", "180001"),
     ("a lone 19", "19"),
+]
+
+# Fields about listening, and those of the tag behind it.
+BAD_LISTENS = [
+    ("listen of length 2", "1900020101"),
+    ("listen of length 257", "190101" + "01" * 257),
+    ("listen of length 65,535, which overruns", "19ffff01"),
+    ("tag 1a", "1a0000"),
+    ("tag 1a of length 1", "1a000101"),
+]
+CUT_LISTENS = [
+    ("a listen with half a length", "1900"),
+    ("a listen without its value", "190001"),
+    ("a lone 1a", "1a"),
 ]
 
 
@@ -319,19 +331,39 @@ def event_cases() -> Iterator[Case]:
     yield Case("a lone 16 after 300 ticks", SHEET + TICK * 300 + b"\x16", "stop 925")
 
 
+def stops_at(words: str, bad: str, after: bytes = TICK) -> Iterator[Case]:
+    """A field that is no good event, as the first one and as the sixth, and what follows it."""
+    yield Case(f"first event: {words}", SHEET + bytes.fromhex(bad) + after, "stop 25")
+    yield Case(f"sixth event: {words}", SHEET + SOME_EVENTS + bytes.fromhex(bad) + after, "stop 46")
+
+
 def bad_stall_cases() -> Iterator[Case]:
     """Stops at fields about a stall, first and after events; a good stall before a bad one is run."""
     for words, bad in BAD_STALLS:
-        yield Case(f"first event: {words}", SHEET + bytes.fromhex(bad) + TICK, "stop 25")
-        yield Case(f"sixth event: {words}", SHEET + SOME_EVENTS + bytes.fromhex(bad) + TICK, "stop 46")
+        yield from stops_at(words, bad)
+    # C23: tag 19 is an event, so nothing stops here: the value is refused, and the tick is run
+    yield Case("first event: a listen of value 7", SHEET + field(EventTag.LISTEN, 7) + TICK, "2 0 1:3:0")
+    yield Case("sixth event: a listen of value 7", SHEET + SOME_EVENTS + field(EventTag.LISTEN, 7) + TICK, "7 0")
+    yield from stops_at("tag 1f", "1f000107")
     for words, bad in CUT_STALLS:
-        yield Case(f"first event: {words}", SHEET + bytes.fromhex(bad), "stop 25")
-        yield Case(f"sixth event: {words}", SHEET + SOME_EVENTS + bytes.fromhex(bad), "stop 46")
+        yield from stops_at(words, bad, b"")
     yield Case("sixth event: stall of length 0", SHEET + SOME_EVENTS + bytes.fromhex("180000") + TICK, "stop 46")
     yield Case("no sheet: a stall first", bytes.fromhex("18000107"), "config 56 0")
     yield Case("no sheet: a lone 18 first", bytes.fromhex("18"), "config 56 0")
     yield Case("a stall before the first tick", SHEET + bytes.fromhex("18000107"), "1 34")
     yield Case("a stall, then one that is cut", SHEET + bytes.fromhex("18000107 180001"), "stop 29")
+
+
+def bad_listen_cases() -> Iterator[Case]:
+    """Stops at fields about listening, first and after events; a good one before a bad one is run."""
+    for words, bad in BAD_LISTENS:
+        yield from stops_at(words, bad)
+    for words, bad in CUT_LISTENS:
+        yield from stops_at(words, bad, b"")
+    yield Case("no sheet: a listen first", field(EventTag.LISTEN, 1), "config 56 0")
+    yield Case("no sheet: a lone 19 first", bytes.fromhex("19"), "config 56 0")
+    yield Case("a listen before the first tick", SHEET + field(EventTag.LISTEN, 1), "1 0")
+    yield Case("a listen, then one that is cut", SHEET + bytes.fromhex("19000101 190001"), "stop 29")
 
 
 # ---------------------------------------------------------------------------

@@ -21,7 +21,7 @@ AFTER = 2
 # More bytes than any sheet without field 07 has.
 AMPLE = 336
 # An unknown call ends the program: the one after it gives no line.
-ENDING = bytes([0x0D, 0x00])
+ENDING = bytes([0x0E, 0x00])
 
 CODES = {
     "new": 0x00,
@@ -37,6 +37,7 @@ CODES = {
     "tick": 0x0A,
     "poll": 0x0B,
     "stall": 0x0C,
+    "listen": 0x0D,
 }
 
 # ---------------------------------------------------------------------------
@@ -517,11 +518,144 @@ WHERE_A_READING_IS_REFUSED = [
     ],
 ]
 
+# Eight networks of a controller each: handles 10 to 17, controllers 27 down to 20.
+EIGHT = b"".join(network(10 + n, [27 - n]) for n in range(8))
+EIGHT_CONTROLLERS = range(20, 28)
+ON, OFF = ("listen", 1, RECORDS_ROOM), ("listen", 0, RECORDS_ROOM)
+
+
+def lived(handle, controllers, to_stopped, ensure, delay):
+    """From step 0, with the way to step 2: full, passed, a bus-off and its delay, silent and back, a stall and its reset, and down by one tick."""
+    stopped, started = answers(controllers, 0), answers(controllers, 1)
+    return [
+        ("request", handle, 2), *to_stopped, *stopped, TICK, *started, TICK, *ticks(ensure), ("bus-off", controllers[-1], 9), TICK,
+        *started, TICK, *ticks(delay), ("request", handle, 1), TICK, ("request", handle, 2), TICK, ("stall", handle, 3), TICK, *stopped, TICK,
+        *started, TICK, ("request", handle, 0), TICK,
+    ]
+
+
+# A life of each outfit from the start on, through all its steps; with partial networking sleep is refused once.
+BARE_LIFE = [*begun(SHEET), *DOWN, *lived(7, [3], [TICK], 3, 2)]
+FITTED_LIFE = [
+    *begun(WITH_TRANSCEIVER), TICK, *answers([4], 0), TICK, *answers([4], 2), TICK, ("transceiver", 6, 1), TICK,
+    *lived(9, [4], [TICK, ("transceiver", 6, 0), TICK], 1, 2),
+]
+PARTIAL_LIFE = [
+    *begun(PARTIAL), TICK, ("clear", 5), TICK, *answers([30, 1], 0), TICK, ("transceiver", 5, 1), TICK, *answers([30, 1], 2, 0), TICK,
+    ("check", 5), TICK, ("clear", 5), TICK, *answers([30, 1], 0), TICK, ("transceiver", 5, 1), TICK, *answers([30, 1], 2), TICK, ("check", 5),
+    TICK,
+    *lived(20, [30, 1], [TICK, ("transceiver", 5, 0), TICK], 2, 3),
+]
+
+
+def with_listening(calls, *values):
+    """These calls, and after the start and after each that may move a network calls to listen with these values."""
+    moving = ("start", "tick", "bus-off", "stall")
+    return [each for call in calls for each in (call, *(("listen", value, RECORDS_ROOM) for value in values if call[0] in moving))]
+
+
+def listening_all_along(calls):
+    """These calls, with listening set right after the start and cleared after the last."""
+    place = calls.index(("start",)) + 1
+    return [*calls[:place], ON, *calls[place:], OFF]
+
+
+def eight_up(handles):
+    """From the start of the eight networks: these come up to full, told on the last tick, and the others rest."""
+    own = [37 - handle for handle in handles]
+    return [
+        *begun(EIGHT), TICK, *answers(EIGHT_CONTROLLERS, 0), TICK, *answers(EIGHT_CONTROLLERS, 2), TICK,
+        *(("request", handle, 2) for handle in handles), TICK, *answers(own, 0), TICK, *answers(own, 1), TICK,
+    ]
+
+
+LISTENING = [
+    # Before reading and before the start: 01, also where other refusals would apply. Nothing of it is kept: up, and online it is.
+    [
+        ("new",), ("listen", 2, 0), ("listen", 1, 3), ("read", SHEET), ("listen", 2, 0), ("listen", 2, 3), ("listen", 1, 2), ("listen", 1, 3),
+        ("listen", 0, 3), ("start",), *DOWN, *UP, ("listen", 0, 3), ("listen", 1, 3),
+    ],
+    # 20 before 21, in step 10 and in step 4; what is refused leaves listening as it is, set or not.
+    [
+        *begun(SHEET), ("listen", 0, 0), ("listen", 1, 2), ("listen", 2, 2), ("listen", 255, 0), ("listen", 2, 3), ("listen", 3, RECORDS_ROOM),
+        ("listen", 255, 255), ("listen", 0, 3), ("listen", 1, 3), ("listen", 0, 2), ("listen", 2, 3), *DOWN, *UP, ("listen", 0, 2), ("listen", 2, 2),
+        ("listen", 2, 3), ("listen", 255, 255), ("listen", 1, 3), ("listen", 0, 3), ("listen", 1, 2), ("listen", 128, 3), ("listen", 0, 3),
+        ("listen", 1, 3),
+    ],
+    # In every step of each outfit, asked and not asked: set and cleared again.
+    with_listening(BARE_LIFE, 1, 0),
+    with_listening(FITTED_LIFE, 1, 0),
+    # With partial networking set twice and cleared twice: the second time nothing goes out.
+    with_listening(PARTIAL_LIFE, 1, 1, 0, 0),
+    # All along: online goes out with the argument 2, TX offline as ever, and nothing comes earlier or later.
+    listening_all_along(BARE_LIFE),
+    listening_all_along(FITTED_LIFE),
+    listening_all_along(PARTIAL_LIFE),
+    # Lent buffers: what is too short changes nothing and leaves every byte; of more bytes those behind the records stay.
+    [
+        *BOTH_UP, ("listen", 1, 0), ("listen", 1, 3), ("listen", 1, 5), ("listen", 1, 6), ("listen", 0, 5), ("listen", 0, 6),
+        ("listen", 1, 7), ("listen", 0, 8), ("listen", 1, 9), ("listen", 0, 143), ("listen", 1, 144), ("listen", 0, 255), ("poll", 8),
+    ],
+    # A bus-off first: set in step 6 nothing goes out, then TX offline, and full with 2. Cleared in step 7: full with online, and set again.
+    [
+        *begun(SHEET), *DOWN, *UP, BUS_OFF, ON, TICK, ON, *answers([3], 1), TICK, *ticks(2), ("poll", 7), BUS_OFF, *RESTARTED, OFF, *ticks(5),
+        ("poll", 7), ON, ("bus-off", 3, 8), BUS_OFF, OFF, ON, *RESTARTED, *ticks(5), OFF,
+    ],
+    # A stall first: set in step 15 before it has asked, cleared after that, set in 16; full with 2. Silent wanted of a reset: TX offline.
+    [
+        *begun(SHEET), *DOWN, *UP, STALL, ON, TICK, OFF, *answers([3], 0), TICK, ON, *answers([3], 1), TICK, ("poll", 7), STALL,
+        ("request", 7, 1), *RESET, OFF, ON, ("request", 7, 2), TICK, ("stall", 7, 2), STALL, OFF, *RESET, ON,
+    ],
+    # Silent and no wanted while listening: set and cleared before the tick that sees it, and after it. Down and up again, listening all the while.
+    [
+        *begun(SHEET), *DOWN, *UP, ("request", 7, 1), ON, TICK, OFF, ON, ("request", 7, 2), OFF, TICK, ON, ("request", 7, 0), OFF, ON, TICK, OFF, ON,
+        *answers([3], 0), TICK, *answers([3], 2), TICK, *UP, ("tick", 8), OFF, *CHECKED,
+    ],
+    # What was asked for is answered over it: in steps 10, 2, 3, 6 and 16 the call comes between the request and the answer.
+    [
+        *begun(SHEET), TICK, ON, *answers([3], 0), TICK, *answers([3], 2), OFF, TICK, ("request", 7, 2), TICK, ON, *answers([3], 0), TICK, OFF,
+        *answers([3], 1), ON, TICK, BUS_OFF, TICK, OFF, *answers([3], 1), ON, TICK, *ticks(2), STALL, TICK, *answers([3], 0), TICK, OFF,
+        *answers([3], 1), TICK, ("poll", 7),
+    ],
+    # Reading, writing and a second start leave it; a new manager has nothing of it.
+    [
+        *begun(SHEET), *DOWN, ON, ("read", PAIR), ("start",), ("write", 25), ("write", 24), *UP, ("read", b""), ("start",), OFF, ON, ("new",),
+        ("read", SHEET), ("start",), *DOWN, *UP, OFF, ON,
+    ],
+    # Two networks of two controllers each, 12 bytes: none is full, the first alone, both, the first is stalled, the second has a bus-off.
+    [
+        *begun(PAIR), ("listen", 1, 11), ("listen", 1, 12), ("listen", 0, 12), TICK, *answers([10, 11, 12, 0], 0), TICK,
+        *answers([10, 11, 12, 0], 2), TICK, ("request", 1, 2), ("request", 2, 2), ("transceiver", 3, 1), TICK, *answers([10, 11], 0), TICK,
+        *answers([11, 10], 1), ("transceiver", 3, 0), TICK, ("listen", 1, 11), ("listen", 1, 12), *answers([12, 0], 0), TICK,
+        *answers([12, 0], 1), TICK, ("poll", 1), ("poll", 2), ("listen", 0, 11), ("listen", 0, 12), ("listen", 1, 12), ("stall", 1, 3), OFF, ON,
+        TICK, ("bus-off", 0, 9), OFF, ON, *answers([10, 11], 0), TICK, *answers([12, 0], 1), OFF, *answers([10, 11], 1), TICK, ON, ("poll", 1),
+        ("poll", 2), ("request", 1, 1), *ticks(3), OFF, ("poll", 1), ("poll", 2), ON, ("request", 2, 0), TICK, OFF,
+    ],
+    # The other way round: the second network is full and the first is not, down, coming up and silent.
+    [
+        *begun(MIXED), ("tick", 21), *answers([3], 0), TICK, *answers([3], 2), TICK, *UP, ("listen", 1, 8), ("listen", 1, 9), ("listen", 0, 9),
+        ("clear", 5), TICK, *answers([30, 1], 0), TICK, ("transceiver", 5, 1), TICK, *answers([30, 1], 2), TICK, ("check", 5), TICK, ON,
+        ("request", 20, 2), TICK, ("transceiver", 5, 0), TICK, OFF, *answers([30, 1], 0), TICK, ON, *answers([1, 30], 1), TICK, OFF, ON,
+        ("request", 20, 1), TICK, OFF,
+    ],
+    # Eight networks, 24 bytes: every second one is full; and all of them, in the order of the sheet. Then some are stalled, silent or going down.
+    [*eight_up(range(10, 18, 2)), ("listen", 1, 23), ("listen", 1, 24), OFF],
+    [
+        *eight_up(range(10, 18)), ("listen", 1, 23), ("listen", 1, 24), ("listen", 0, 24), ("stall", 10, 3), ("stall", 17, 3), ("bus-off", 25, 9),
+        ("request", 11, 1), ("request", 14, 0), ON, TICK, OFF, *answers([27, 20], 0), TICK, ON, *answers([27, 25, 20], 1), TICK, OFF, ON,
+    ],
+    # The largest sheet: 96 bytes, also where nothing would go out.
+    [
+        ("new",), ("read", LARGEST), ("listen", 1, 96), ("start",), ("listen", 1, 95), ("listen", 2, 95), ("listen", 2, 96), ("listen", 1, 96),
+        TICK, OFF,
+    ],
+]
+
 CALLS = [
     call
     for cases in (
         WHOLE_CASE, BENCH_CASES, REFUSALS, PARTIAL_NETWORKING, TWO_NETWORKS, STALLS, SILENT_TOLD_APART, ONE_FAULT_OF_TWO_CHIPS, FIELD_07,
-        AT_THE_THRESHOLD, WHERE_A_READING_IS_REFUSED,
+        AT_THE_THRESHOLD, WHERE_A_READING_IS_REFUSED, LISTENING,
     )
     for case in cases
     for call in case
@@ -561,13 +695,16 @@ def outcome_of(manager, call):
         "tick": manager.tick,
         "poll": manager.poll,
         "stall": manager.stall,
+        "listen": manager.listen,
     }
     return calls[name](*arguments)
 
 
 def room_of(name):
     """The size of the buffer of which a part is lent; 0 for a call that takes none."""
-    return {"write": SHEET_ROOM, "bus-off": RECORDS_ROOM, "tick": RECORDS_ROOM, "stall": RECORDS_ROOM}.get(name, 0)
+    if name in ("bus-off", "tick", "stall", "listen"):
+        return RECORDS_ROOM
+    return SHEET_ROOM if name == "write" else 0
 
 
 def shown_buffer(name, outcome):

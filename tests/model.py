@@ -36,7 +36,7 @@ class Refusal:
     ALREADY_STARTED = 0x0B
     # R9: too few bytes were lent
     BUFFER_TOO_SHORT = 0x20
-    # R13: there is no such mode or ok value
+    # R13: there is no such mode, ok value or value to listen
     VALUE_OUT_OF_RANGE = 0x21
     # R15: the step does not take the answer, the report, the bus-off or the stall
     NOT_TAKEN = 0x22
@@ -101,6 +101,7 @@ class PduMode:
     # H7: the arguments of kind 3
     ONLINE = 0
     TX_OFFLINE = 1
+    TX_OFFLINE_ACTIVE = 2
 
 
 class Mode:
@@ -188,7 +189,7 @@ class EventTag:
 
     # C3: the lowest tag of an event
     FIRST = 0x10
-    # C7 to C14, C22: a tag for each event
+    # C7 to C14, C22, C23: a tag for each event
     REQUEST = 0x10
     BUS_OFF = 0x11
     CONTROLLER_ANSWER = 0x12
@@ -198,6 +199,7 @@ class EventTag:
     TICK = 0x16
     POLL = 0x17
     STALL = 0x18
+    LISTEN = 0x19
 
 
 class Limit:
@@ -212,9 +214,10 @@ class Limit:
     THRESHOLD = 254
     # B2: where the count of bus-offs stays
     BUS_OFF_COUNT = 255
-    # R13: the largest mode, and the largest ok value
+    # R13: the largest mode, the largest ok value, and the largest value to listen
     MODE = 2
     OK = 1
+    LISTEN = 1
     # S1: a tag and a length
     HEADER_BYTES = 3
     # H1: a kind, a target and an argument
@@ -254,7 +257,7 @@ ALLOWED_AFTER = {
 # S2, S27: the fields with which a network is whole, so that the bytes may also end after them
 ENDING_TAGS = (Tag.PARTIAL_NETWORKING, Tag.RELATION)
 
-# C7 to C14, C22: how many bytes the value of each event has
+# C7 to C14, C22, C23: how many bytes the value of each event has
 LENGTH_OF_EVENT = {
     EventTag.REQUEST: 2,
     EventTag.BUS_OFF: 1,
@@ -265,6 +268,7 @@ LENGTH_OF_EVENT = {
     EventTag.TICK: 0,
     EventTag.POLL: 1,
     EventTag.STALL: 1,
+    EventTag.LISTEN: 1,
 }
 
 # N1: the mode that a step asks the controllers for
@@ -299,6 +303,8 @@ UP_STEPS = (4, 5, 6, 7, 8, 15, 16)
 GOING_DOWN_STEPS = (9, 10, 11, 12, 13, 14)
 # X2: the steps that take a stall
 STALL_STEPS = (4, 5)
+# L3, L6: the steps in which each controller was last handed online, or what goes out in its place while the manager listens
+ONLINE_STEPS = (4, 5, 15, 16)
 
 # H1: kind, target, argument
 Record = Tuple[int, int, int]
@@ -976,6 +982,23 @@ def takes_stall(network: NetworkRecord) -> bool:
     return network.step in STALL_STEPS
 
 
+def online_records(network: NetworkRecord) -> List[Record]:
+    """Online for each controller of a network that was last handed it, for a call that changes what goes out for it."""
+    # L3, L4: in steps 4, 5, 15 and 16; the record of the network is looked at, and stays
+    if network.step not in ONLINE_STEPS:
+        return []
+    return records_for_controllers(network, Kind.PDU_MODE, PduMode.ONLINE)
+
+
+def quiet_twin(record: Record) -> Record:
+    """What goes out in the place of a record while the manager listens."""
+    kind, target, argument = record
+    # L2: of 3 online the argument becomes 2; every other record goes out as it is, 3 TX offline too
+    if (kind, argument) == (Kind.PDU_MODE, PduMode.ONLINE):
+        return kind, target, PduMode.TX_OFFLINE_ACTIVE
+    return record
+
+
 def takes_controller_answer(network: NetworkRecord, mode: int) -> bool:
     """Whether the step takes a controller's answer."""
     # A2: it has asked the controllers, and for this very mode
@@ -1009,8 +1032,8 @@ def takes_check_done(network: NetworkRecord) -> bool:
 class Outcome:
     """What a call gives back; what does not apply to the call is 0 or empty.
 
-    The count is the number of records of a tick, a bus-off or a stall, the number of networks of a
-    reading, the sheet's length of a writing.
+    The count is the number of records of a tick, a bus-off, a stall or a call to listen, the number of
+    networks of a reading, the sheet's length of a writing.
     """
 
     answer: int
@@ -1042,13 +1065,15 @@ def lent_bytes_after(before: bytes, outcome: Outcome) -> bytes:
 
 
 class Manager:
-    """The state manager. Before the start it has no network records."""
+    """The state manager. Before the start it has no network records, and does not listen."""
 
     # R2, R6: each call makes its tests first, in the order of the table, and only then a change
 
     def __init__(self):
         self.sheet: Optional[List[Settings]] = None
         self.networks: Optional[List[NetworkRecord]] = None
+        # L1: kept beside the records of the networks
+        self.listening = False
 
     @classmethod
     def new(cls) -> "Manager":
@@ -1059,11 +1084,26 @@ class Manager:
         """Whether a start has been accepted."""
         return self.networks is not None
 
+    def number_of_controllers(self) -> int:
+        """How many controllers all networks of the sheet have."""
+        return sum(len(settings.controllers) for settings in self.sheet)
+
     def tick_bytes(self) -> int:
         """How many bytes a tick needs."""
         # R16: three for each controller and six for each network
-        controllers = sum(len(settings.controllers) for settings in self.sheet)
-        return Limit.RECORD_BYTES * (controllers + 2 * len(self.sheet))
+        return Limit.RECORD_BYTES * (self.number_of_controllers() + 2 * len(self.sheet))
+
+    def listen_bytes(self) -> int:
+        """How many bytes a call to listen needs."""
+        # R24: three for each controller of all networks, in every step
+        return Limit.RECORD_BYTES * self.number_of_controllers()
+
+    def handing_out(self, records: List[Record]) -> Outcome:
+        """An accepted call that hands out these records: every call that hands out any ends here."""
+        # L2: while the manager listens each goes out as its quiet twin
+        if self.listening:
+            records = [quiet_twin(record) for record in records]
+        return accepted_with_records(records)
 
     # N16: of the networks only the one that has the id is given to a call, to be changed
 
@@ -1097,7 +1137,7 @@ class Manager:
         # R4, R20: refused by its bytes; the place is theirs, and the former sheet stays in force
         if reading.refusal != ACCEPTED:
             return Outcome(reading.refusal, place=reading.place)
-        # R19: the sheet takes the place of the one before
+        # R19, L5: the sheet takes the place of the one before, and whether the manager listens stays
         self.sheet = reading.networks
         # R5: how many networks there are, and how long the sheet is
         return Outcome(ACCEPTED, count=len(reading.networks), place=reading.place)
@@ -1124,6 +1164,8 @@ class Manager:
             return refused(Refusal.ALREADY_STARTED)
         # N7 to N9: every network goes down first, and nothing is handed out
         self.networks = [started_network(settings) for settings in self.sheet]
+        # L5: it begins without listening
+        self.listening = False
         return Outcome(ACCEPTED)
 
     def request(self, handle: int, mode: int) -> Outcome:
@@ -1161,7 +1203,7 @@ class Manager:
         # B6, R15: the step does not take it
         if not takes_bus_off(network):
             return refused(Refusal.NOT_TAKEN)
-        return accepted_with_records(bus_off_network(network))
+        return self.handing_out(bus_off_network(network))
 
     def stall(self, handle: int, lent_length: int) -> Outcome:
         """The sending of the network with this handle has stuck."""
@@ -1178,7 +1220,29 @@ class Manager:
         # X5, R15: the step does not take it
         if not takes_stall(network):
             return refused(Refusal.NOT_TAKEN)
-        return accepted_with_records(stall_network(network))
+        return self.handing_out(stall_network(network))
+
+    def listen(self, value: int, lent_length: int) -> Outcome:
+        """Set listening for the whole manager, or clear it."""
+        # R7: the manager was not started
+        if not self.is_started():
+            return refused(Refusal.NOT_READY)
+        # R9, R24: too few bytes are lent, also where nothing would go out
+        if lent_length < self.listen_bytes():
+            return refused(Refusal.BUFFER_TOO_SHORT)
+        # R13: the value is 0 or 1
+        if value > Limit.LISTEN:
+            return refused(Refusal.VALUE_OUT_OF_RANGE)
+        # L1: 1 sets listening and 0 clears it
+        before, self.listening = self.listening, value == 1
+        # L3: where nothing changes nothing is handed out
+        if self.listening == before:
+            return self.handing_out([])
+        # L3: else online, as it goes out from now on, in the order of the sheet
+        records = []
+        for network in self.networks:
+            records += online_records(network)
+        return self.handing_out(records)
 
     def controller_answer(self, controller: int, mode: int, ok: int) -> Outcome:
         """The answer of a controller to the request for a mode."""
@@ -1259,7 +1323,7 @@ class Manager:
         records = []
         for network in self.networks:
             records += tick_network(network)
-        return accepted_with_records(records)
+        return self.handing_out(records)
 
     def poll(self, handle: int) -> Outcome:
         """The mode of the network with this handle."""
@@ -1333,6 +1397,9 @@ def run_event(manager: Manager, tag: int, value: bytes) -> Outcome:
     # C5, C22: a handle
     if tag == EventTag.STALL:
         return manager.stall(value[0], Limit.PROGRAM_BUFFER_BYTES)
+    # C5, C23: a value
+    if tag == EventTag.LISTEN:
+        return manager.listen(value[0], Limit.PROGRAM_BUFFER_BYTES)
     # C14: a handle
     return manager.poll(value[0])
 

@@ -8,8 +8,8 @@ from typing import Iterator, List, Tuple
 import coverage
 import model
 from model import ControllerMode, EventTag, Limit, Mode, Outfit, Relation, Step
-from traces import BENCH_NETWORK, FULL_STEPS, LARGEST, LARGEST_BY_THE_NEWER_RULE, NOT_OK, OF_OUTFIT, OK, RESET_STEPS, SHEET, TICK, WHOLE_CASE
-from traces import Case, Trace, answer_to, arrange, by_the_newer_rule, network
+from traces import BENCH_NETWORK, FULL_STEPS, LARGEST, LARGEST_BY_THE_NEWER_RULE, NOT_OK, OF_OUTFIT, OFF, OK, ON, RESET_STEPS, SHEET, TICK
+from traces import WHOLE_CASE, Case, Trace, answer_to, arrange, by_the_newer_rule, network
 
 UNKNOWN_ID = 99
 
@@ -155,7 +155,7 @@ def every_report(trace: Trace) -> None:
 
 
 def calls_in_step(outfit: int, step: int) -> bytes:
-    """Every event but a stall with known and unknown ids, then a tick; in the step again a bus-off, and ticks after it."""
+    """Every event but a stall and a call to listen, with known and unknown ids, then a tick; in the step again a bus-off, and ticks after it."""
     trace = Trace(OF_OUTFIT[outfit])
     trace.go_to(step)
     trace.poll()
@@ -174,7 +174,7 @@ def calls_in_step(outfit: int, step: int) -> bytes:
 
 
 def call_cases() -> Iterator[Case]:
-    """A bus-off in each step is among them and `reset_cases`, and every number that an event but a stall can be answered with.
+    """A bus-off in each step is among them and `reset_cases`, and every number that an event can be answered with, but a stall or a call to listen.
 
     01, 0B and 20 cannot occur in the program: it reads one sheet, starts once, makes its calls on a started manager, and
     lends 144 bytes, which is room for any call.
@@ -1257,3 +1257,165 @@ def threshold_cases() -> Iterator[Case]:
     yield Case("eight networks by the newer rule, the largest sheet", side_by_side(*LARGEST_BY_THE_NEWER_RULE))
     mixed = [by_the_newer_rule(settings) if place % 2 else settings for place, settings in enumerate(LARGEST)]
     yield Case("eight networks, every second by the newer rule", side_by_side(*mixed))
+
+
+# ---------------------------------------------------------------------------
+# Listening
+# ---------------------------------------------------------------------------
+
+
+def set_and_cleared(trace: Trace) -> None:
+    """Listening is set twice and cleared twice; in between come values that are none."""
+    for value in (ON, 2, ON, OFF, 255, OFF):
+        trace.listen(value)
+
+
+def listening_in_each_step(outfit: int) -> bytes:
+    """In each step of a network of this outfit: set twice and cleared twice, and a tick after it; in step 15 also before it has asked."""
+    trace = Trace(OF_OUTFIT[outfit])
+    for step in sorted(coverage.reachable_steps(outfit)):
+        trace.go_to(step)
+        set_and_cleared(trace)
+        trace.tick()
+        if step == Step.RESET_STOPPED:
+            set_and_cleared(trace)
+    return trace.recorded()
+
+
+def life_of_outfit(trace: Trace) -> Iterator[None]:
+    """Up, passed, silent and back, a bus-off, silent and back, a stall, silent out of a reset and out of a recovery, and down; after each turn it
+    lets others act."""
+    for step in (Step.FULL, Step.SILENT, Step.FULL, Step.WAITING, Step.CHECKING, Step.SILENT, Step.CHECKING, Step.RESET_STARTED):
+        yield from trace.way_to(step)
+    trace.want(Mode.SILENT)
+    trace.replied_tick()
+    yield
+    trace.bus_off()
+    for _ in range(7):
+        trace.replied_tick()
+        yield
+    for step in (Step.CHECKING, Step.NO_COMMUNICATION):
+        yield from trace.way_to(step)
+
+
+def listening_all_along(outfit: int) -> bytes:
+    """A whole life with listening set before the first tick, and cleared at its end."""
+    trace = Trace(OF_OUTFIT[outfit])
+    trace.listen()
+    for _ in life_of_outfit(trace):
+        pass
+    trace.poll()
+    trace.listen(OFF)
+    return trace.recorded()
+
+
+def listening_by_turns(outfit: int) -> bytes:
+    """The same life, and after each turn listening is changed: so between the requests of a tick and the answers to them."""
+    trace = Trace(OF_OUTFIT[outfit])
+    for _ in life_of_outfit(trace):
+        trace.listen(OFF if trace.manager.listening else ON)
+    trace.poll()
+    return trace.recorded()
+
+
+def every_value() -> bytes:
+    """All values that a byte has, in step 5; two of them are taken."""
+    trace = Trace(BENCH_NETWORK)
+    trace.go_to(Step.FULL)
+    for value in range(256):
+        trace.listen(value)
+    trace.listen(OFF)
+    return trace.recorded()
+
+
+def listening_after_a_bus_off() -> bytes:
+    """A bus-off first: set in step 6 nothing goes out, though online was handed out last. Then TX offline, and full with 2; cleared then."""
+    trace = Trace(network(7, [3, 12]))
+    trace.go_to(Step.FULL)
+    trace.bus_off()
+    trace.listen()
+    trace.replied_tick(4)
+    trace.poll()
+    trace.listen(OFF)
+    return trace.recorded()
+
+
+def listening_within_a_reset(on: int, off: int) -> bytes:
+    """A stall; set after so many ticks of the reset, and cleared after so many."""
+    trace = Trace(BENCH_NETWORK)
+    trace.go_to(Step.FULL)
+    trace.stall()
+    for ticks in range(5):
+        if ticks == on:
+            trace.listen()
+        if ticks == off:
+            trace.listen(OFF)
+        trace.replied_tick()
+    trace.poll()
+    return trace.recorded()
+
+
+def listen_and_tick(trace: Trace) -> None:
+    """Listening is changed; then a replied tick."""
+    trace.listen(OFF if trace.manager.listening else ON)
+    trace.replied_tick()
+
+
+def trouble_of(trace: Trace, index: int) -> None:
+    """By its place in the sheet a network is stalled, has a bus-off, is wanted silent, or is to go down."""
+    if index % 4 == 0:
+        trace.stall(index)
+    elif index % 4 == 1:
+        trace.bus_off(index)
+    else:
+        trace.want(Mode.SILENT if index % 4 == 2 else Mode.NO, index)
+
+
+def listening_beside_others(*networks: model.Settings) -> bytes:
+    """At each tick full is wanted of one network more, so that they are in different steps; listening changes at each, and at last all are full.
+    Then, at each tick one, they are stalled, have a bus-off, are wanted silent or go down, each fourth alike."""
+    trace = Trace(*networks)
+    for index in range(len(networks)):
+        trace.want(Mode.FULL, index)
+        listen_and_tick(trace)
+    for index in range(len(networks)):
+        for _ in trace.way_to(Step.FULL, index):
+            trace.listen(OFF if trace.manager.listening else ON)
+    for index in range(len(networks)):
+        trouble_of(trace, index)
+        listen_and_tick(trace)
+    for _ in range(3):
+        listen_and_tick(trace)
+    poll_all(trace)
+    return trace.recorded()
+
+
+def largest_listen() -> bytes:
+    """All eight networks of four controllers are full, then on their way through a reset: a change hands out 32 records."""
+    trace = Trace(*(network(n, list(range(4 * n, 4 * n + 4)), n, times=(1, 1, 1)) for n in range(Limit.NETWORKS)))
+    up_together(trace)
+    trace.listen()
+    trace.listen(OFF)
+    for index in range(Limit.NETWORKS):
+        trace.stall(index)
+    trace.listen()
+    trace.replied_tick(3)
+    trace.listen(OFF)
+    return trace.recorded()
+
+
+def listen_cases() -> Iterator[Case]:
+    """Listening set and cleared in each step of each outfit, all along and by turns; every value; what is asked and told over it; many networks."""
+    for outfit, name in coverage.OUTFIT_NAMES.items():
+        yield Case(f"{name}, listening in each step", listening_in_each_step(outfit))
+        yield Case(f"{name}, listening all along", listening_all_along(outfit))
+        yield Case(f"{name}, listening by turns", listening_by_turns(outfit))
+    yield Case("every value to listen", every_value())
+    yield Case("listening after a bus-off", listening_after_a_bus_off(), "28 0 3:3:0 3:12:0")
+    for on, off in ((0, 1), (0, 2), (1, 2), (2, 3), (1, 4)):
+        yield Case(f"listening from tick {on} to tick {off} of a reset", listening_within_a_reset(on, off))
+    bare, fitted, partial = OF_OUTFIT.values()
+    yield Case("two networks, listening", listening_beside_others(partial, bare))
+    yield Case("three networks, listening", listening_beside_others(bare, fitted, partial))
+    yield Case("eight networks, listening", listening_beside_others(*LARGEST))
+    yield Case("the largest calls to listen", largest_listen())

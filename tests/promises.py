@@ -3,10 +3,13 @@
 Written over calls, answers and records alone: nothing here looks into a manager. A history has the latest entry last. The words have the
 names of the definitions (`up`, `rested`, `on`, `awaited`, `runs`, `granted`), and so have the figures; `broken` names every statement that is
 false of a history.
+
+A network does not see that the manager listens: in what it sees of an entry online is online, with whatever argument it went out, and a call
+to listen is nothing. What listening itself brings is said of the entries as they are.
 """
 
 from dataclasses import dataclass
-from typing import Callable, List, NamedTuple, Optional, Set, Tuple
+from typing import Callable, Iterator, List, NamedTuple, Optional, Set, Tuple
 
 from model import ACCEPTED, ControllerMode, EventManagerNotice, Kind, Limit, Mode, ModeManagerNotice, PduMode, Record, Refusal, Relation, Settings
 from model import Outfit, TransceiverMode, outfit_of
@@ -14,6 +17,7 @@ from model import Outfit, TransceiverMode, outfit_of
 TICK = "tick"
 BUS_OFF = "bus-off"
 STALL = "stall"
+LISTEN = "listen"
 ANSWER = "answer"
 REQUEST = "request"
 REPORT = "report"
@@ -23,6 +27,12 @@ NOTHING = "nothing"
 # What an answer of a controller says to the request.
 NOT_OK = 0
 OK = 1
+# What a call to listen says.
+OFF = 0
+ON = 1
+# The two forms in which online goes out, by kind and argument: as it is, and while the manager listens.
+ONLINE = (Kind.PDU_MODE, PduMode.ONLINE)
+TURNED = (Kind.PDU_MODE, PduMode.TX_OFFLINE_ACTIVE)
 # The records that ask for something.
 REQUEST_KINDS = (Kind.CONTROLLER_MODE, Kind.TRANSCEIVER_MODE, Kind.CLEAR_WAKE_FLAG, Kind.CHECK_WAKE_FLAG)
 
@@ -61,6 +71,14 @@ class Call(NamedTuple):
     lent: int = 0
 
 
+class Entry(NamedTuple):
+    """A call, the number that answers it, and all records that it hands out."""
+
+    call: Call
+    number: int
+    records: List[Record]
+
+
 def own_records(network: Settings, records: List[Record]) -> List[Record]:
     """The records that name an id of the network, by their kind."""
     transceiver = [] if network.transceiver is None else [network.transceiver]
@@ -74,8 +92,23 @@ def own_records(network: Settings, records: List[Record]) -> List[Record]:
     return [record for record in records if record[1] in targets.get(record[0], [network.handle])]
 
 
+def unturned(record: Record) -> Record:
+    """Argument 2 of kind 3 stands for online; every other record is as it is."""
+    kind, target, argument = record
+    return (kind, target, PduMode.ONLINE) if (kind, argument) == TURNED else record
+
+
+def plainly(call: Call, number: int, records: List[Record]) -> List[Record]:
+    """The records of an entry as the rules of the networks make them. Of a call that sets or clears listening online is left out, in either form."""
+    plain = [unturned(record) for record in records]
+    if call.name == LISTEN and number == ACCEPTED:
+        return [record for record in plain if (record[0], record[2]) != ONLINE]
+    return plain
+
+
 def view(network: Settings, call: Call, number: int, records: List[Record]) -> Seen:
-    """How the network sees an entry: a refused tick is nothing, and so is a bus-off or a stall that was refused for lack of room."""
+    """How the network sees an entry: a refused tick is nothing, and so is a bus-off or a stall that was refused for lack of room, and every call
+    to listen."""
     short = number == Refusal.BUFFER_TOO_SHORT
     sight = NOTHING
     if call.name == TICK and number == ACCEPTED:
@@ -92,7 +125,7 @@ def view(network: Settings, call: Call, number: int, records: List[Record]) -> S
         sight = REQUEST
     elif call.name in (REPORT, CLEARED, CHECKED) and call.values[0] == network.transceiver:
         sight = call.name
-    return Seen(sight, number, own_records(network, records), call.values)
+    return Seen(sight, number, own_records(network, plainly(call, number, records)), call.values)
 
 
 # ---------------------------------------------------------------------------
@@ -312,6 +345,19 @@ class Words:
             if entry.sight == ANSWER and entry.accepted and entry.values[:2] == (controller, ControllerMode.STOPPED):
                 return entry.values[2] == OK
         return False
+
+    def released(self, entry: Seen) -> bool:
+        """Full is said, silent is entered, the network falls, or its shutdown begins."""
+        notices = (ModeManagerNotice.SILENT, ModeManagerNotice.BUS_OFF, ModeManagerNotice.NO)
+        return self.tells(Mode.FULL)(entry) or any(entry.hands(Kind.MODE_MANAGER, self.handle, notice) for notice in notices)
+
+    def held(self, history: History) -> bool:
+        """A stall was accepted, and the network was not released since."""
+        return any(stalled(entry) for entry in since(self.released, history))
+
+    def sending(self, history: History) -> bool:
+        """Full is told, or the network is held: its controllers were last set to send, or would have been without listening."""
+        return self.told(history) == Mode.FULL or self.held(history)
 
     def all_stopped(self, history: History) -> bool:
         return all(self.stopped(controller, history) for controller in self.network.controllers)
@@ -659,6 +705,85 @@ def broken_by_start(words: Words, entry: Seen, before: History) -> List[str]:
     if len(entry.records) > most:
         found.append("few-records")
     return found
+
+
+# ---------------------------------------------------------------------------
+# Listening, of the entries as they are
+# ---------------------------------------------------------------------------
+
+
+def listening(entries: List[Entry]) -> bool:
+    """The value of the last accepted call to listen is 1; without such a call the manager does not listen."""
+    for call, number, _ in reversed(entries):
+        if call.name == LISTEN and number == ACCEPTED:
+            return call.values[0] == ON
+    return False
+
+
+def online_as(is_listening: bool) -> int:
+    """The argument with which online goes out."""
+    return PduMode.TX_OFFLINE_ACTIVE if is_listening else PduMode.ONLINE
+
+
+def last_pdu(controller: int, entries: List[Entry]) -> Optional[int]:
+    """The argument of the last record of kind 3 that a controller was handed; None where there was none."""
+    for _, _, records in reversed(entries):
+        for kind, target, argument in reversed(records):
+            if (kind, target) == (Kind.PDU_MODE, controller):
+                return argument
+    return None
+
+
+def listen_number(networks: List[Settings], call: Call) -> int:
+    """What a call to listen is answered with."""
+    # R9, R24: three bytes for each controller of all networks, before the value is looked at
+    if call.lent < Limit.RECORD_BYTES * sum(len(network.controllers) for network in networks):
+        return Refusal.BUFFER_TOO_SHORT
+    # R13: 0 or 1
+    return Refusal.VALUE_OUT_OF_RANGE if call.values[0] > Limit.LISTEN else ACCEPTED
+
+
+def broken_by_listening(networks: List[Settings], entries: List[Entry]) -> List[str]:
+    """Of the last entry: while the manager listens it hands out no online, and while it does not, none in the other form. How a call to listen is
+    answered; and where it changes nothing, or is refused, it hands out nothing."""
+    call, number, records = entries[-1]
+    found = []
+    forms = [(kind, argument) for kind, _, argument in records]
+    if listening(entries) and ONLINE in forms:
+        found.append("quiet")
+    if not listening(entries) and TURNED in forms:
+        found.append("aloud")
+    if call.name == LISTEN and number != listen_number(networks, call):
+        found.append("listen-answered")
+    if call.name == LISTEN and listening(entries) == listening(entries[:-1]) and records:
+        found.append("again")
+    return found
+
+
+def broken_in_a_network(words: Words, entries: List[Entry], seen: History) -> List[str]:
+    """Where a network's controllers were last set to send, that was in the form that is in force. A call that changes the form hands it out there for
+    each controller, in order, and elsewhere nothing."""
+    controllers, in_force = words.network.controllers, online_as(listening(entries))
+    found = []
+    if words.sending(seen) and any(last_pdu(controller, entries) != in_force for controller in controllers):
+        found.append("last")
+    if listening(entries) != listening(entries[:-1]):
+        due = [(Kind.PDU_MODE, controller, in_force) for controller in controllers] if words.sending(seen[:-1]) else []
+        if own_records(words.network, entries[-1].records) != due:
+            found.append("anew")
+    return found
+
+
+def faults_of_listening(networks: List[Settings], entries: List[Entry]) -> Iterator[Tuple[int, Set[str]]]:
+    """Each entry, by its number from 1, after which some statement on listening is false, with the names of those."""
+    views = [(Words(network), [view(network, *entry) for entry in entries]) for network in networks]
+    for number in range(1, len(entries) + 1):
+        part = entries[:number]
+        names = set(broken_by_listening(networks, part))
+        for words, seen in views:
+            names.update(broken_in_a_network(words, part, seen[:number]))
+        if names:
+            yield number, names
 
 
 STATEMENTS_OF_A_HISTORY = (

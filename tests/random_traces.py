@@ -1,8 +1,8 @@
 """Random inputs for `cantrace`: long good traces for the most part, and damaged ones.
 
 A good trace is played in a closed loop by a driver that is mostly diligent: it answers most requests ok, some late, some not
-at all, some refused, some with another mode or id; it asks for modes, and lets bus-offs, stalls, polls and nonsense come in
-between.
+at all, some refused, some with another mode or id; it asks for modes, and lets bus-offs, stalls, calls to listen, polls and
+nonsense come in between.
 All randomness comes from the generator that is handed in.
 """
 
@@ -13,7 +13,7 @@ from typing import Callable, Dict, List, NamedTuple, Tuple
 
 import model
 from model import EventTag, Limit, Mode, Outfit, Relation, Step, Tag
-from traces import NOT_OK, Event, Trace, answer_to, field
+from traces import NOT_OK, OFF, ON, Event, Trace, answer_to, field
 
 
 class RandomInput(NamedTuple):
@@ -73,6 +73,7 @@ class Temper:
     nonsense: float
     bus_off: float
     stall: float
+    listening: float
     wish: float
     idleness: float
 
@@ -86,6 +87,7 @@ def random_temper(random: Random) -> Temper:
         nonsense=random.choice((0.0, 0.05, 0.2)),
         bus_off=random.choice((0.02, 0.1, 0.2, 0.4)),
         stall=random.choice((0.02, 0.1, 0.2, 0.4)),
+        listening=random.choice((0.0, 0.05, 0.1, 0.3)),
         wish=random.choice((0.05, 0.1, 0.3)),
         idleness=random.choice((0.0, 0.05, 0.15)),
     )
@@ -126,6 +128,8 @@ class Driver:
             self.bus_offs()
         if self.happens(self.temper.stall):
             self.stall()
+        if self.happens(self.temper.listening):
+            self.listen()
         self.answer_late()
         if self.happens(0.1):
             self.trace.event(EventTag.POLL, self.any_network().settings.handle)
@@ -194,6 +198,12 @@ class Driver:
         network = self.random.choice(full) if full and self.happens(0.8) else self.any_network()
         for _ in range(self.random.choice((1, 1, 1, 1, 2))):
             self.trace.event(EventTag.STALL, network.settings.handle)
+
+    def listen(self) -> None:
+        """Listening is set where it is not, and cleared where it is; now and then it stays as it is, or the value is none."""
+        other = OFF if self.trace.manager.listening else ON
+        for _ in range(self.random.choice((1, 1, 1, 1, 2))):
+            self.trace.listen(self.random.choice((other, other, other, ON, OFF, 2, 255)))
 
     def nonsense(self) -> Event:
         """An event with values that need not fit: ids of its own network or any, modes in range or beyond."""
@@ -380,7 +390,7 @@ def noise(random: Random) -> bytes:
     fields = []
     for _ in range(random.randrange(40)):
         value = [random.randrange(40) for _ in range(random.choice((0, 1, 1, 1, 2, 3, 6)))]
-        fields.append(field(random.randrange(0x1A), *value))
+        fields.append(field(random.randrange(0x1B), *value))
     return start + b"".join(fields)
 
 

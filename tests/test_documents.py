@@ -375,9 +375,8 @@ def counted() -> List[Tuple[str, int]]:
     ]
 
 
-SMALL_NUMBERS = {
-    word: number for number, word in enumerate(("two", "three", "four", "five", "six", "seven", "eight", "nine", "ten", "eleven", "twelve", "thirteen"), start=2)
-}
+SMALL_WORDS = "two three four five six seven eight nine ten eleven twelve thirteen fourteen".split()
+SMALL_NUMBERS = {word: number for number, word in enumerate(SMALL_WORDS, start=2)}
 
 
 def number_of(word: str) -> Optional[int]:
@@ -579,7 +578,8 @@ class Documents(unittest.TestCase):
         self.assertIn(script.splitlines(), shown)
         for example, begin, length in (
             ("first", "11 0 ", 6), ("stall", "14 0 ", 10), ("silent", "7 8 ", 2), ("silent", "11 36 ", 2), ("silent", "22 37 ", 2),
-            ("two-chips", "16 0 ", 7), ("refused-sheet", "config 52 ", 3),
+            ("two-chips", "16 0 ", 7), ("refused-sheet", "config 52 ", 3), ("under-repair", "17 0 ", 5), ("under-repair", "25 0 ", 3),
+            ("under-repair", "29 0 ", 2),
         ):
             explained = [sys.executable, "-B", "tools/recording", "explain", f"examples/{example}.script", f"examples/{example}.txt"]
             words = subprocess.run(explained, cwd=ROOT, stdout=subprocess.PIPE, check=True).stdout.decode().splitlines()

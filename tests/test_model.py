@@ -102,6 +102,10 @@ class Box:
         self.records = []
         return self.manager.stall(self.handle, LARGE_BUFFER)
 
+    def listen(self, value=1):
+        """The box is to hear and stay quiet, or with 0 to send again; what was asked for stays open."""
+        return self.manager.listen(value, LARGE_BUFFER)
+
     def tick_until(self, step):
         """Tick, with all requests answered, until the network has just come to the step."""
         for _ in range(40):
@@ -299,7 +303,8 @@ class Program(unittest.TestCase):
 
     def test_bad_events_stop(self):
         for events in ("18 0000", "ff0000", "100001 07", "160001 00", "1600", "170001", "12000303 01",
-                       "090000", "00", "190000", "190001 07", "180001", "180002 0707", "18"):
+                       "090000", "00", "190000", "190002 0101", "190001", "19", "1a0000", "1a0001 01",
+                       "180001", "180002 0707", "18"):
             with self.subTest(events=events):
                 output = self.after_bench_sheet("160000" + events)
                 self.assertEqual(output, "config 0 1\n1 0 1:3:0\nstop 28\n")
@@ -311,8 +316,8 @@ class Program(unittest.TestCase):
         self.assertEqual(self.after_bench_sheet("160000 160000 17000108").splitlines()[3], "3 3 0")
 
     def test_refusals_are_decimal(self):
-        expected = ["config 0 1", "1 3", "2 33", "3 37", "4 4", "5 34", "6 5", "7 5", "8 5", "9 3", "10 34"]
-        events = "1000020802 1000020703 1000020701 11000104 11000103 1300020000 14000100 15000100 18000108 18000107"
+        expected = ["config 0 1", "1 3", "2 33", "3 37", "4 4", "5 34", "6 5", "7 5", "8 5", "9 3", "10 34", "11 33"]
+        events = "1000020802 1000020703 1000020701 11000104 11000103 1300020000 14000100 15000100 18000108 18000107 19000102"
         self.assertEqual(self.after_bench_sheet(events).splitlines(), expected)
 
     def test_no_events(self):
@@ -780,14 +785,14 @@ class CallsBeforeTheStart(unittest.TestCase):
         return [
             manager.tick(0), manager.bus_off(99, 0), manager.request(99, 9), manager.poll(99),
             manager.controller_answer(99, 9, 9), manager.transceiver_mode(99, 9),
-            manager.clear_done(99), manager.check_done(99), manager.stall(99, 0),
+            manager.clear_done(99), manager.check_done(99), manager.stall(99, 0), manager.listen(9, 0),
         ]
 
     def test_calls_without_a_start_give_01_before_all_else(self):
         manager = Manager.new()
-        self.assertEqual([call.answer for call in self.calls_that_need_a_start(manager)], [1] * 9)
+        self.assertEqual([call.answer for call in self.calls_that_need_a_start(manager)], [1] * 10)
         manager.read(BENCH_SHEET)
-        self.assertEqual([call.answer for call in self.calls_that_need_a_start(manager)], [1] * 9)
+        self.assertEqual([call.answer for call in self.calls_that_need_a_start(manager)], [1] * 10)
 
     def test_start_and_write_need_a_sheet(self):
         manager = Manager.new()
@@ -862,6 +867,30 @@ class RefusalOrder(unittest.TestCase):
             self.assertEqual(manager.stall(7, 3).answer, 0x03)
             accepted = manager.stall(9, 3)
             self.assertEqual((accepted.answer, accepted.records, accepted.count), (0, [(6, 9, 1)], 1))
+
+    def test_listen(self):
+        # Two controllers: 3 x 2 = 6 bytes.
+        for value in (0, 1, 2, 255):
+            for length in (0, 3, 5):
+                refused = self.manager.listen(value, length)
+                self.assertEqual((refused.answer, refused.records, refused.count), (0x20, [], 0))
+        for length in (6, LARGE_BUFFER):
+            self.assertEqual([self.manager.listen(value, length).answer for value in (2, 3, 255)], [0x21] * 3)
+            self.assertEqual([self.manager.listen(value, length).answer for value in (0, 1)], [0, 0])
+
+    def test_listen_needs_room_for_all_networks_in_every_step(self):
+        # Three controllers and two networks: 3 x 3 = 9 bytes, also where nothing would go out.
+        manager = Manager.new()
+        manager.read(PARTIAL_SHEET + BENCH_SHEET)
+        manager.start()
+        self.assertEqual((manager.listen(0, 8).answer, manager.listen(1, 8).answer, manager.listen(2, 8).answer), (0x20, 0x20, 0x20))
+        self.assertFalse(manager.listening)
+        self.assertEqual((manager.listen(0, 9).answer, manager.listen(2, 9).answer, manager.listen(1, 9).answer), (0, 0x21, 0))
+        for step in range(17):
+            box = box_in_step(step, PARTIAL_SHEET)
+            with self.subTest(step=step):
+                self.assertEqual([box.manager.listen(value, 5).answer for value in (0, 1, 2)], [0x20] * 3)
+                self.assertEqual([box.manager.listen(value, 6).answer for value in (2, 0, 1, 1, 0)], [0x21, 0, 0, 0, 0])
 
     def test_request(self):
         self.assertEqual(self.manager.request(7, 3).answer, 0x03)
@@ -953,6 +982,15 @@ class StepsAndCalls(unittest.TestCase):
                 taken = step in (4, 5)
                 self.assertEqual(outcome.answer, 0 if taken else 0x22)
                 self.assertEqual(outcome.records, [(6, 9, 1)] if taken else [])
+
+    def test_listen(self):
+        for step in range(17):
+            box = box_in_step(step, PARTIAL_SHEET)
+            with self.subTest(step=step):
+                for value, argument in ((1, 2), (0, 0)):
+                    outcome = box.listen(value)
+                    handed_out = [(3, 1, argument), (3, 2, argument)] if step in (4, 5, 15, 16) else []
+                    self.assertEqual((outcome.answer, outcome.records, outcome.count), (0, handed_out, len(handed_out)))
 
     def test_silent(self):
         for step in range(17):
@@ -1293,6 +1331,235 @@ class Stalls(unittest.TestCase):
         self.assertEqual(lines[-5:], ["12 0 6:7:1", "13 34", "14 3", "15 0 1:3:0", "16 0"])
 
 
+class Listening(unittest.TestCase):
+    """L1 to L6: the whole box hears and stays quiet, on the network of the bench cases and beside others."""
+
+    FULL = [(6, 7, 2), (7, 7, 2)]
+    ONLINE_STEPS = (4, 5, 15, 16)
+
+    def two_networks(self, *steps):
+        """A box with the networks 9 and 7, in this order, put into these steps."""
+        box = Box(PARTIAL_SHEET + BENCH_SHEET)
+        for network, step in zip(box.manager.networks, steps):
+            network.step = step
+            network.told = Mode.FULL if step in (4, 5) else Mode.SILENT if step in UP_STEPS else Mode.NO
+        return box
+
+    def test_a_new_manager_does_not_listen(self):
+        self.assertFalse(Manager.new().listening)
+
+    def test_1_sets_it_and_0_clears_it(self):
+        box = Box()
+        for value in (1, 1, 0, 0, 1, 0):
+            self.assertEqual(box.listen(value).answer, 0)
+            self.assertEqual(box.manager.listening, value == 1)
+
+    def test_it_names_nobody(self):
+        """It is for the whole manager, whatever ids the sheet has."""
+        for step in self.ONLINE_STEPS:
+            manager = box_in_step(step, bytes([1, 0, 1, 0, 2, 0, 1, 1]) + BENCH_SHEET[8:]).manager
+            self.assertEqual(manager.listen(1, 3).records, [(3, 1, 2)])
+            self.assertEqual(manager.listen(0, 3).records, [(3, 1, 0)])
+
+    def test_online_goes_out_with_argument_2(self):
+        """From step 3, from the wait, from silent and at the end of a reset."""
+        for step, ticks in ((3, 1), (7, 2), (8, 1), (16, 1)):
+            box = box_in_step(step)
+            box.listen()
+            box.want(Mode.FULL)
+            for _ in range(ticks):
+                records = box.replied_tick()
+            with self.subTest(step=step):
+                self.assertEqual(records, [(3, 3, 2), *self.FULL])
+
+    def test_tx_offline_goes_out_as_it_is(self):
+        box = box_in_step(6)
+        box.listen()
+        box.tick()
+        self.assertEqual(box.replied_tick(), [(3, 3, 1)])
+        for step in (4, 5, 16):
+            box = box_in_step(step)
+            box.listen()
+            box.want(Mode.SILENT)
+            self.assertEqual(box.replied_tick(), [(3, 3, 1), (6, 7, 1), (7, 7, 1)])
+        box = box_in_step(7)
+        box.want(Mode.SILENT)
+        box.listen()
+        self.assertEqual([box.tick(), box.tick()], [[], [(3, 3, 1), (6, 7, 1), (7, 7, 1)]])
+
+    def test_every_other_record_goes_out_as_it_is(self):
+        """One life, with listening set at the start and without: record by record the same, but for online."""
+        lives = []
+        for value in (0, 1):
+            box = Box(PARTIAL_SHEET)
+            box.listen(value)
+            records = []
+            for mode in (Mode.NO, Mode.FULL):
+                box.want(mode)
+                for _ in range(6):
+                    records += box.replied_tick()
+            for call in (box.bus_off, box.stall):
+                box.tick_until(5)
+                records += call().records
+                for _ in range(8):
+                    records += box.replied_tick()
+            for mode in (Mode.SILENT, Mode.FULL, Mode.NO):
+                box.want(mode)
+                for _ in range(3):
+                    records += box.replied_tick()
+            lives.append(records)
+        usual, quiet = lives
+        self.assertEqual({record[:1] for record in usual}, {(kind,) for kind in range(1, 9)})
+        self.assertEqual(quiet, [(3, target, 2) if (kind, argument) == (3, 0) else (kind, target, argument) for kind, target, argument in usual])
+        self.assertEqual({argument for kind, _, argument in quiet if kind == 3}, {1, 2})
+
+    def test_a_change_is_handed_out_in_4_5_15_and_16_alone(self):
+        for step in range(17):
+            box = box_in_step(step, PARTIAL_SHEET)
+            online = [(3, 1), (3, 2)] if step in self.ONLINE_STEPS else []
+            with self.subTest(step=step):
+                for value, argument in ((1, 2), (0, 0), (1, 2)):
+                    self.assertEqual(box.listen(value).records, [(*record, argument) for record in online])
+
+    def test_in_step_15_before_it_has_asked_and_after_it(self):
+        box = box_in_step(15)
+        self.assertFalse(box.network.asked)
+        self.assertEqual(box.listen(1).records, [(3, 3, 2)])
+        self.assertEqual(box.tick(), [(1, 3, 0)])
+        self.assertEqual(box.listen(0).records, [(3, 3, 0)])
+        self.assertEqual(box.replied_tick(), [(1, 3, 1)])
+        self.assertEqual(box.listen(1).records, [(3, 3, 2)])
+        self.assertEqual(box.replied_tick(), [(3, 3, 2), *self.FULL])
+
+    def test_where_nothing_changes_nothing_goes_out(self):
+        for step in range(17):
+            box = box_in_step(step, PARTIAL_SHEET)
+            with self.subTest(step=step):
+                for value in (0, 1, 0):
+                    box.listen(value)
+                    again = box.listen(value)
+                    self.assertEqual((again.answer, again.records, again.count), (0, [], 0))
+
+    def test_networks_in_the_order_of_the_sheet(self):
+        for first, second in ((4, 5), (5, 16), (15, 4), (16, 15), (4, 6), (3, 5), (8, 15), (0, 16), (7, 8), (10, 9)):
+            box = self.two_networks(first, second)
+            online = [(3, 1), (3, 2)] * (first in self.ONLINE_STEPS) + [(3, 3)] * (second in self.ONLINE_STEPS)
+            with self.subTest(first=first, second=second):
+                self.assertEqual(box.listen(1).records, [(*record, 2) for record in online])
+                self.assertEqual(box.listen(0).records, [(*record, 0) for record in online])
+
+    def test_controllers_in_the_order_of_the_sheet(self):
+        sheet = BENCH_SHEET[:4] + bytes.fromhex("0200011f 02000100 02000111 02000105") + BENCH_SHEET[8:]
+        manager = box_in_step(5, sheet).manager
+        self.assertEqual(manager.listen(1, 11).answer, 0x20)
+        self.assertEqual(manager.listen(1, 12).records, [(3, 31, 2), (3, 0, 2), (3, 17, 2), (3, 5, 2)])
+
+    def test_no_record_of_a_network_changes(self):
+        for step in range(17):
+            box = box_in_step(step, PARTIAL_SHEET)
+            before = repr(box.network)
+            with self.subTest(step=step):
+                for value in (0, 1, 1, 0, 2):
+                    box.listen(value)
+                    self.assertEqual(repr(box.network), before)
+
+    def test_answers_are_taken_over_it(self):
+        """What was asked for before is answered after it, and counts."""
+        box = box_in_step(3)
+        box.listen()
+        self.assertEqual(box.manager.controller_answer(3, 1, 1).answer, 0)
+        box.listen(0)
+        self.assertEqual(box.tick(), [(3, 3, 0), *self.FULL])
+
+    def test_what_is_told_and_when_stays(self):
+        for value in (0, 1):
+            box = box_in_step(4)
+            box.listen(value)
+            self.assertEqual(box.manager.poll(7).mode, Mode.FULL)
+            self.assertEqual([box.tick(), box.tick(), box.tick()], [[], [], [(8, 7, 0)]])
+            self.assertEqual(box.bus_off().records, [(8, 7, 1), (6, 7, 1), (7, 7, 3)])
+            self.assertEqual(replied_ticks_until_full(box), 4)
+            self.assertEqual(box.stall().records, [(6, 7, 1)])
+            self.assertEqual(replied_ticks_until_full(box), 3)
+
+    def test_the_start_clears_it(self):
+        manager = Manager.new()
+        manager.read(BENCH_SHEET)
+        manager.listening = True
+        self.assertEqual(manager.start().answer, 0)
+        self.assertFalse(manager.listening)
+
+    def test_a_refused_start_leaves_it(self):
+        manager = Manager.new()
+        manager.listening = True
+        self.assertEqual(manager.start().answer, 0x01)
+        self.assertTrue(manager.listening)
+        box = Box()
+        box.listen()
+        self.assertEqual(box.manager.start().answer, 0x0B)
+        self.assertTrue(box.manager.listening)
+
+    def test_every_other_call_leaves_it(self):
+        for value in (False, True):
+            manager = Manager.new()
+            manager.listening = value
+            for call in (lambda: manager.read(BENCH_SHEET), lambda: manager.read(b""), lambda: manager.write(25), lambda: manager.write(0)):
+                call()
+                self.assertEqual(manager.listening, value)
+            box = box_in_step(4, PARTIAL_SHEET)
+            box.listen(int(value))
+            manager = box.manager
+            for call in (
+                lambda: manager.read(BENCH_SHEET), lambda: manager.write(99), manager.start, lambda: manager.request(9, 1),
+                lambda: manager.poll(9), lambda: manager.tick(LARGE_BUFFER), lambda: manager.tick(0), lambda: manager.request(9, 2),
+                lambda: manager.tick(LARGE_BUFFER), lambda: manager.stall(9, 3), lambda: manager.stall(9, 2), lambda: manager.bus_off(1, 9),
+                lambda: manager.bus_off(1, 8), lambda: manager.controller_answer(1, 1, 1), lambda: manager.transceiver_mode(6, 0),
+                lambda: manager.clear_done(6), lambda: manager.check_done(6), lambda: manager.listen(2, LARGE_BUFFER),
+                lambda: manager.listen(1 - value, 5),
+            ):
+                call()
+                self.assertEqual(manager.listening, value)
+
+    def test_a_refusal_changes_nothing(self):
+        for value in (0, 1):
+            box = box_in_step(5)
+            box.listen(value)
+            before = repr(box.network)
+            for refused in (box.manager.listen(1 - value, 2), box.manager.listen(2, 3), box.manager.listen(255, LARGE_BUFFER)):
+                self.assertNotEqual(refused.answer, 0)
+                self.assertEqual((refused.records, refused.count), ([], 0))
+            self.assertEqual((repr(box.network), box.manager.listening), (before, value == 1))
+            # the change itself still hands out its record
+            self.assertEqual(box.listen(1 - value).records, [(3, 3, 2 * (1 - value))])
+
+    def test_in_step_6_online_may_be_what_was_handed_last(self):
+        """A bus-off first, and then listening: nothing goes out before TX offline does."""
+        box = box_in_step(5)
+        box.bus_off()
+        self.assertEqual(box.listen().records, [])
+        self.assertEqual(box.tick(), [(1, 3, 1)])
+        self.assertEqual(box.replied_tick(), [(3, 3, 1)])
+        self.assertEqual([box.tick(), box.tick()], [[], [(3, 3, 2), *self.FULL]])
+
+    def test_lent_bytes(self):
+        for length in (2, 3, 9):
+            box = box_in_step(4)
+            before = b"\xee" * length
+            after = model.lent_bytes_after(before, box.manager.listen(1, length))
+            self.assertEqual(after, before if length < 3 else bytes([3, 3, 2]) + before[3:])
+            self.assertEqual(model.lent_bytes_after(before, box.manager.listen(1, length)), before)
+
+    def test_the_event(self):
+        events = "160000 120003030001 160000 120003030201 160000 1000020702 160000 120003030001 160000 120003030101 160000"
+        lines = model.cantrace(BENCH_SHEET + bytes.fromhex(events + "19000101 19000101 19000102 190001ff 19000100 19000100")).splitlines()
+        self.assertEqual(lines[-7:], ["11 0 3:3:0 6:7:2 7:7:2", "12 0 3:3:2", "13 0", "14 33", "15 33", "16 0 3:3:0", "17 0"])
+
+    def test_the_event_before_the_network_is_up(self):
+        events = "19000101 160000 120003030001 160000 120003030201 160000 1000020702 160000 120003030001 160000 120003030101 160000 19000100"
+        lines = model.cantrace(BENCH_SHEET + bytes.fromhex(events)).splitlines()
+        self.assertEqual((lines[1], lines[-2:]), ("1 0", ["12 0 3:3:2 6:7:2 7:7:2", "13 0 3:3:0"]))
+
+
 class BothRules(unittest.TestCase):
     """S8, S27 and T13: the long delay above the threshold, or at it too where field 07 is there."""
 
@@ -1498,7 +1765,7 @@ class RandomHistories(unittest.TestCase):
     )
 
     def random_call(self, manager, chance):
-        choice = chance.randrange(13)
+        choice = chance.randrange(15)
         if choice < 4:
             return manager.tick(chance.choice((29, 30, 31, 144)))
         if choice < 8:
@@ -1513,6 +1780,8 @@ class RandomHistories(unittest.TestCase):
             return done(chance.choice(self.TRANSCEIVERS))
         if choice == 11:
             return manager.stall(chance.choice(self.HANDLES), chance.choice((2, 3)))
+        if choice in (12, 13):
+            return manager.listen(chance.choice((0, 1, 1, 2)), chance.choice((11, 12, 144)))
         return manager.bus_off(chance.choice(self.CONTROLLERS), chance.choice((8, 9)))
 
     def check_network(self, network):
@@ -1525,24 +1794,40 @@ class RandomHistories(unittest.TestCase):
         if network.step not in (4, 7):
             self.assertEqual(network.tick_count, 0)
 
+    def check_online(self, manager, last_handed):
+        """L6: what each controller was handed last of kind 3, in the steps that speak of it."""
+        for network in manager.networks:
+            if network.step in (4, 5, 15, 16):
+                for controller in network.settings.controllers:
+                    self.assertEqual(last_handed[controller], 2 if manager.listening else 0)
+
     def test_invariants(self):
-        steps_seen = set()
-        for seed in range(40):
+        steps_seen, changes = set(), set()
+        for seed in range(100):
             chance = random.Random(seed)
             manager = Manager.new()
             self.assertEqual(manager.read(self.SHEET).count, 3)
             manager.start()
+            last_handed = {}
             for _ in range(400):
-                before = repr(manager.networks)
+                before, listened = repr(manager.networks), manager.listening
                 outcome = self.random_call(manager, chance)
                 self.assertEqual(outcome.count, len(outcome.records))
                 if outcome.answer != 0:
-                    self.assertEqual(repr(manager.networks), before)
+                    self.assertEqual((repr(manager.networks), manager.listening), (before, listened))
                     self.assertEqual((outcome.records, outcome.count), ([], 0))
+                for kind, target, argument in outcome.records:
+                    if kind == Kind.PDU_MODE:
+                        last_handed[target] = argument
+                        self.assertNotEqual(argument, 0 if manager.listening else 2)
+                self.check_online(manager, last_handed)
                 for network in manager.networks:
                     self.check_network(network)
                     steps_seen.add(network.step)
+                    if manager.listening != listened:
+                        changes.add((network.step, manager.listening))
         self.assertEqual(steps_seen, set(range(17)))
+        self.assertEqual(changes, {(step, listening) for step in range(17) for listening in (False, True)})
 
 
 if __name__ == "__main__":

@@ -446,6 +446,23 @@ class RecoveryTest(unittest.TestCase):
                         if "".join(text.itertext()) in ("sending of network 7 has stuck", "told silent (6:7:1)")]
         self.assertEqual((len(arrows_above), len(set(arrows_above))), (4, 4))
 
+    def test_listening(self):
+        """A call to listen names nobody, so it is an event of every network: it comes from above, and what it hands out goes below."""
+        picture = self.picture("under-repair")
+        texts = texts_of(picture)
+        for expected, times in (
+            ("17: listen", 1), ("18: listen", 1), ("listening is set", 2), ("controller 3 hears only (3:3:2)", 2),
+            ("controller 3 TX offline (3:3:1)", 1), ("controller 3 online (3:3:0)", 1), ("controller 4 hears only (3:4:2)", 0),
+            ("25: tick 4 after the bus-off", 1), ("the short delay: 2 ticks", 1),
+        ):
+            self.assertEqual(texts.count(expected), times, expected)
+        self.assertEqual(bands_of(picture), [NO, FULL, SILENT, FULL])
+        self.assertNotIn(texts[texts.index("17: listen") + 1], (MAY, MAY_NOT))
+        arrows = [line.attrib for line in ElementTree.fromstring(picture.encode("utf-8")).iter(f"{SVG}line")]
+        from_above = [line for line in arrows if (line["x1"], line["x2"]) == (str(recovery_picture.ABOVE), str(recovery_picture.BAND_LEFT))]
+        # two calls to listen, two polls and no other event of network 7
+        self.assertEqual(len(from_above), 4)
+
     def test_refused_event(self):
         texts = texts_of(self.picture("two-controllers"))
         self.assertEqual(texts.count("18: answer, refused"), 1)

@@ -15,8 +15,9 @@ from unittest.mock import patch
 
 import model
 from model import ControllerMode, Kind, Limit, Mode, Outfit, Refusal, Relation, Settings, Step, TransceiverMode
-from promises import ANSWER, BUS_OFF, CHECKED, CLEARED, NOT_OK, OK, REPORT, REQUEST, STALL, TICK, Call, History, Words, broken, ever_broken
-from promises import most_ticks, own_records, ticked, ticks, ticks_from_rest, ticks_from_start, ticks_to_rest, view
+from promises import ANSWER, BUS_OFF, CHECKED, CLEARED, LISTEN, NOT_OK, NOTHING, OFF, OK, ON, REPORT, REQUEST, STALL, TICK, Call, Entry
+from promises import History, Words, broken, ever_broken, faults_of_listening, last_pdu, listening, most_ticks, own_records, plainly, ticked, ticks
+from promises import ticks_from_rest, ticks_from_start, ticks_to_rest, unturned, view
 
 HISTORIES = 60
 CALLS_OF_A_HISTORY = 70
@@ -71,6 +72,12 @@ def answers_to(random: Random, records: List[model.Record]) -> List[Call]:
     return [call for call in calls if random.random() < 0.92]
 
 
+def listen_call(random: Random, networks: List[Settings]) -> Call:
+    """A call to listen, mostly with a value that there is, with and without room for all controllers of the networks."""
+    needed = Limit.RECORD_BYTES * sum(len(network.controllers) for network in networks)
+    return Call(LISTEN, (random.choice((ON, ON, OFF, OFF, Limit.LISTEN + 1)),), random.choice((FULL_ROOM, FULL_ROOM, needed, needed - 1)))
+
+
 def stray_call(random: Random, networks: List[Settings]) -> Call:
     """A call that nobody asked for: a request, a bus-off or a stall with or without room, an answer or report of any kind, a tick without
     room."""
@@ -101,6 +108,8 @@ def made(manager: model.Manager, call: Call) -> model.Outcome:
         return manager.bus_off(*call.values, call.lent)
     if call.name == STALL:
         return manager.stall(*call.values, call.lent)
+    if call.name == LISTEN:
+        return manager.listen(*call.values, call.lent)
     calls = {
         ANSWER: manager.controller_answer,
         REQUEST: manager.request,
@@ -109,10 +118,6 @@ def made(manager: model.Manager, call: Call) -> model.Outcome:
         CHECKED: manager.check_done,
     }
     return calls[call.name](*call.values)
-
-
-# A call, the number that answers it, and the records.
-Entry = Tuple[Call, int, List[model.Record]]
 
 
 class Life(NamedTuple):
@@ -125,7 +130,7 @@ class Life(NamedTuple):
 
 def entry_of(manager: model.Manager, call: Call) -> Entry:
     outcome = made(manager, call)
-    return call, outcome.answer, outcome.records
+    return Entry(call, outcome.answer, outcome.records)
 
 
 def started(networks: List[Settings]) -> model.Manager:
@@ -142,12 +147,14 @@ def chips_beside(networks: List[Settings], controller: int) -> List[int]:
 
 def random_entries(random: Random, networks: List[Settings], manager: model.Manager, most: int) -> Tuple[List[Entry], List[int]]:
     """So many calls: the neighbours answer mostly, and stray calls come in between; a full network is stalled now and then, and a bus-off is often
-    reported by every chip of its network. With them the numbers of the ticks with room that were refused."""
+    reported by every chip of its network. Among them come calls to listen, by a chance of their own, which the other calls do not hang on. With
+    them the numbers of the ticks with room that were refused."""
+    hearing = Random(repr(networks))
     entries: List[Entry] = []
     refused_with_room = []
     coming = [Call(REQUEST, (network.handle, Mode.FULL)) for network in networks if random.random() < 0.9]
     calm = random.random() < 0.5
-    while len(entries) < most:
+    for _ in range(most):
         call = coming.pop(0) if coming else Call(TICK, (), FULL_ROOM)
         if random.random() < 0.03:
             call = Call(REQUEST, (networks[0].handle, Mode.FULL))
@@ -156,6 +163,8 @@ def random_entries(random: Random, networks: List[Settings], manager: model.Mana
         full = [network.settings.handle for network in manager.networks if network.told == Mode.FULL]
         if full and random.random() < 0.06:
             call = Call(STALL, (random.choice(full),), FULL_ROOM)
+        if hearing.random() < 0.1:
+            entries.append(entry_of(manager, listen_call(hearing, networks)))
         entries.append(entry_of(manager, call))
         if call.name == BUS_OFF and random.random() < 0.4:
             # the other chips of the network report the same fault
@@ -184,7 +193,7 @@ def kind_answers(random: Random, records: List[model.Record]) -> List[Call]:
 
 def harmless_call(random: Random, network: model.NetworkRecord) -> Call:
     """A call that does good ticks no harm: what is wanted once more, a mode that there is not, a bus-off or a stall that is refused, what nobody
-    asked for, a tick without room."""
+    asked for, a tick without room, a call to listen."""
     settings = network.settings
     controller = random.choice(settings.controllers)
     transceiver = Limit.TRANSCEIVER_ID if settings.transceiver is None else settings.transceiver
@@ -198,6 +207,7 @@ def harmless_call(random: Random, network: model.NetworkRecord) -> Call:
             Call(REPORT, (transceiver, random.randint(0, Limit.MODE + 1))),
             Call(random.choice((CLEARED, CHECKED)), (transceiver,)),
             Call(TICK, (), 0),
+            Call(LISTEN, (random.choice((ON, ON, OFF, Limit.LISTEN + 1)),), FULL_ROOM),
         )
     )
 
@@ -252,6 +262,8 @@ PARTIAL = replace(FITTED, partial_networking=1)
 WANTS = {mode: [Call(REQUEST, (LONE.handle, mode))] for mode in (Mode.NO, Mode.SILENT, Mode.FULL)}
 FALLS = [Call(BUS_OFF, (0,), FULL_ROOM)]
 STALLS = [Call(STALL, (LONE.handle,), FULL_ROOM)]
+SETS = [Call(LISTEN, (ON,), FULL_ROOM)]
+CLEARS = [Call(LISTEN, (OFF,), FULL_ROOM)]
 
 
 def prompt_life(after_tick: Dict[int, List[Call]], count: int, network: Settings = LONE, unanswered: Sequence[int] = ()) -> Life:
@@ -357,6 +369,43 @@ def silent_on_the_way() -> Life:
     return prompt_life({0: WANTS[Mode.FULL], **coming_up, 11: WANTS[Mode.NO], **going_down}, 18, PARTIAL)
 
 
+def listening_in_each_step() -> Life:
+    """Listening is set and cleared in each step that a network without a transceiver comes to, asked and not asked; in steps 4 and 15 twice each."""
+    both, twice = SETS + CLEARS, SETS + SETS + CLEARS + CLEARS
+    calls = {number: both for number in (1, 2, 3, 4, 5, 9, 10, 14, 15, 17)}
+    calls.update({0: WANTS[Mode.FULL] + both, 6: twice, 8: both + FALLS + both, 11: WANTS[Mode.SILENT], 12: both + WANTS[Mode.FULL]})
+    calls.update({13: STALLS + twice, 16: WANTS[Mode.NO]})
+    return prompt_life(calls, 18, replace(LONE, ensure_time=2))
+
+
+def listening_all_along() -> Life:
+    """Listening is set before the first tick. Up; a bus-off; silent and back; a stall; silent wanted of a reset; down and up; cleared, and set."""
+    calls = {0: SETS + WANTS[Mode.FULL], 7: FALLS, 12: WANTS[Mode.SILENT], 14: WANTS[Mode.FULL], 16: STALLS, 20: STALLS + WANTS[Mode.SILENT]}
+    return prompt_life({**calls, 24: WANTS[Mode.FULL], 26: WANTS[Mode.NO], 30: WANTS[Mode.FULL], 36: CLEARS, 38: SETS}, 40)
+
+
+def listening_by_turns() -> Life:
+    """Set in full, cleared in step 15 before it has asked, set in 16, cleared in full; set in step 6, cleared in 7, set in full, cleared in silent.
+    Two controllers and a transceiver."""
+    falls = [Call(BUS_OFF, (1,), FULL_ROOM)]
+    calls = {0: WANTS[Mode.FULL], 9: SETS + STALLS + CLEARS, 11: SETS, 13: CLEARS, 14: falls + SETS, 16: CLEARS, 19: SETS, 20: WANTS[Mode.SILENT]}
+    return prompt_life({**calls, 22: CLEARS + WANTS[Mode.FULL]}, 26, replace(FITTED, controllers=[0, 1]))
+
+
+def listening_after_a_bus_off() -> Life:
+    """Up; a bus-off, and then listening is set, in step 6; full again, and cleared."""
+    return prompt_life({0: WANTS[Mode.FULL], 7: FALLS + SETS, 12: CLEARS}, 14)
+
+
+def refused_listening() -> Life:
+    """Up; calls to listen with too few bytes and with values that there are not, before listening is set and after it. Two controllers."""
+    network = replace(LONE, controllers=[0, 1])
+    needed = Limit.RECORD_BYTES * 2
+    refused = [Call(LISTEN, (value,), needed - 1) for value in (OFF, ON, 2)] + [Call(LISTEN, (2,), needed), Call(LISTEN, (255,), FULL_ROOM)]
+    exact = [[Call(LISTEN, (value,), needed)] for value in (OFF, ON)]
+    return prompt_life({0: refused + WANTS[Mode.FULL], 7: refused + exact[ON] + refused, 9: STALLS + refused + exact[OFF] + refused}, 14, network)
+
+
 class Slow(NamedTuple):
     """A life that needs as many good ticks as any: its network, what comes after the tick of a number, the ticks that nobody answers, the last tick
     before those that are good, and how many of those there are."""
@@ -392,20 +441,47 @@ def history_of(life: Life, network: Settings) -> History:
     return [view(network, *entry) for entry in life.entries]
 
 
+def modes_told(manager: model.Manager) -> List[int]:
+    return [manager.poll(settings.handle).mode for settings in manager.sheet]
+
+
+def nothing_else(life: Life) -> bool:
+    """Where the calls to listen are left out of a life, all the others give the same answers, modes and records, but for the form of online; and the
+    records of the networks are the same at every moment."""
+    whole, without = started(life.networks), started(life.networks)
+    for call, _, _ in life.entries:
+        outcome = made(whole, call)
+        if call.name != LISTEN:
+            other = made(without, call)
+            if (outcome.answer, [unturned(record) for record in outcome.records]) != (other.answer, other.records):
+                return False
+        if modes_told(whole) != modes_told(without) or whole.networks != without.networks:
+            return False
+    return True
+
+
+def whole_faults(life: Life) -> Set[str]:
+    """The names of the statements about a whole life that it breaks."""
+    names = {"tick-accepted": not life.refused_with_room, "nothing-else": nothing_else(life)}
+    return {name for name, holds in names.items() if not holds}
+
+
 def faults(life: Life) -> Set[str]:
     """The names of the statements that a life breaks first, for any of its networks."""
-    names: Set[str] = {"tick-accepted"} if life.refused_with_room else set()
+    names = whole_faults(life)
     for network in life.networks:
         found = broken(network, history_of(life, network))
         if found:
             names.update(found[1])
+    for _, found_of_listening in faults_of_listening(life.networks, life.entries):
+        return names | found_of_listening
     return names
 
 
 def all_faults(life: Life) -> Set[str]:
     """The names of all statements that a life ever breaks, for any of its networks."""
-    names: Set[str] = {"tick-accepted"} if life.refused_with_room else set()
-    return names.union(*(ever_broken(network, history_of(life, network)) for network in life.networks))
+    names = whole_faults(life).union(*(ever_broken(network, history_of(life, network)) for network in life.networks))
+    return names.union(*(found for _, found in faults_of_listening(life.networks, life.entries)))
 
 
 def conclusions(network: Settings, history: History) -> Set[str]:
@@ -426,18 +502,24 @@ def conclusions(network: Settings, history: History) -> Set[str]:
 
 
 def miscounted(life: Life) -> List[str]:
-    """Where the words of a history and the model's records part: at rest and step 0, restarting and step 6, the bus-offs that count and the
-    count."""
+    """Where the words of a history and the model's records part: at rest and step 0, restarting and step 6, held and steps 15 and 16, sending and
+    those and 4 and 5, the bus-offs that count and the count; and whether the manager listens."""
     manager = started(life.networks)
     found = []
     for number, (call, _, _) in enumerate(life.entries, 1):
         made(manager, call)
+        if listening(life.entries[:number]) != manager.listening:
+            found.append(f"entry {number}: listening")
         for network, record in zip(life.networks, manager.networks):
             words, history = Words(network), [view(network, *entry) for entry in life.entries[:number]]
             if words.at_rest(history) != (record.step == Step.NO_COMMUNICATION):
                 found.append(f"entry {number}: at rest")
             if words.restarting(history) != (record.step == Step.RESTARTING):
                 found.append(f"entry {number}: restarting")
+            if words.held(history) != (record.step in (Step.RESET_STOPPED, Step.RESET_STARTED)):
+                found.append(f"entry {number}: held")
+            if words.sending(history) != (record.step in (Step.CHECKING, Step.FULL, Step.RESET_STOPPED, Step.RESET_STARTED)):
+                found.append(f"entry {number}: sending")
             if min(words.falls(history), Limit.BUS_OFF_COUNT) != record.bus_off_count:
                 found.append(f"entry {number}: count")
     return found
@@ -472,6 +554,9 @@ real_down = model.next_step_down
 real_coming_up = model.next_step_coming_up
 real_is_done = model.is_done
 real_takes_transceiver_mode = model.takes_transceiver_mode
+real_listen = model.Manager.listen
+real_handing_out = model.Manager.handing_out
+real_online = model.online_records
 
 
 def quiet_bus_off(network):
@@ -880,6 +965,114 @@ def starts_without_stopping(step, done):
     return real_coming_up(Step.CONTROLLERS_STOPPED if step == Step.TRANSCEIVER_NORMAL else step, done)
 
 
+def every_pdu_mode_turned(record):
+    """TX offline goes out as 2 too."""
+    return (*record[:2], model.PduMode.TX_OFFLINE_ACTIVE) if record[0] == Kind.PDU_MODE else record
+
+
+def handed_out_each_time(self, value, lent):
+    """Where nothing changes, the records go out as well."""
+    outcome = real_listen(self, value, lent)
+    if outcome.answer != model.ACCEPTED:
+        return outcome
+    return self.handing_out([record for network in self.networks for record in real_online(network)])
+
+
+def online_with_full(network):
+    """With online goes full, which was told already."""
+    records = real_online(network)
+    return records + model.tell_communication_manager(network, Mode.FULL) if records else []
+
+
+def full_noted(network):
+    """With online the mode manager hears of full."""
+    records = real_online(network)
+    return records + model.tell_mode_manager(network, Mode.FULL) if records else []
+
+
+def cleared_with_2(self, value, lent):
+    """What is handed out when listening is cleared has the argument from before."""
+    outcome = real_listen(self, value, lent)
+    return model.accepted_with_records([model.quiet_twin(record) for record in outcome.records]) if outcome.records else outcome
+
+
+def set_with_0(self, value, lent):
+    """What is handed out when listening is set is still online."""
+    outcome = real_listen(self, value, lent)
+    return model.accepted_with_records([(*record[:2], 0) for record in outcome.records]) if outcome.records else outcome
+
+
+def ticks_as_ever(self, lent):
+    """While the manager listens a tick hands out online."""
+    listened, self.listening = self.listening, False
+    outcome = real_tick(self, lent)
+    self.listening = listened
+    return outcome
+
+
+def slow_while_listening(self, lent):
+    """While the manager listens, ticks do not count towards the ensure time and the delay."""
+    before = [network.tick_count for network in self.networks]
+    outcome = real_tick(self, lent)
+    for network, count in zip(self.networks, before):
+        if self.listening and network.step in model.TIMED_STEPS and network.tick_count > 0:
+            network.tick_count = count
+    return outcome
+
+
+def change_counts_as_a_tick(self, value, lent):
+    """A change of listening counts as a tick towards the ensure time."""
+    before = self.listening
+    outcome = real_listen(self, value, lent)
+    for network in self.networks:
+        if self.listening != before and network.step == Step.CHECKING:
+            network.tick_count += 1
+    return outcome
+
+
+def answers_forgotten(self, value, lent):
+    """A call to listen makes the steps ask anew."""
+    outcome = real_listen(self, value, lent)
+    for network in self.networks:
+        model.forget_answers(network)
+    return outcome
+
+
+def stall_ends_listening(self, handle, lent):
+    outcome = real_manager_stall(self, handle, lent)
+    self.listening = self.listening and outcome.answer != model.ACCEPTED
+    return outcome
+
+
+def bus_off_ends_listening(self, controller, lent):
+    outcome = real_manager_bus_off(self, controller, lent)
+    self.listening = self.listening and outcome.answer != model.ACCEPTED
+    return outcome
+
+
+def first_network_alone(self, value, lent):
+    """Only the first network of the sheet gets the change at once."""
+    outcome = real_listen(self, value, lent)
+    own = self.networks[0].settings.controllers if self.is_started() else []
+    return replace(outcome, records=[record for record in outcome.records if record[1] in own])
+
+
+def listen_in_a_short_buffer(self, value, lent):
+    """A call to listen needs no more bytes than it uses."""
+    needed = sum(len(real_online(network)) for network in self.networks) * Limit.RECORD_BYTES
+    return real_listen(self, value, FULL_ROOM if lent >= needed else lent)
+
+
+def value_before_room(self, value, lent):
+    """A value that there is not is refused before too few bytes are."""
+    return model.refused(Refusal.VALUE_OUT_OF_RANGE) if value > Limit.LISTEN else real_listen(self, value, lent)
+
+
+def any_value_sets(self, value, lent):
+    """A value above 1 sets listening as 1 does."""
+    return real_listen(self, min(value, Limit.LISTEN), lent)
+
+
 WRONG_BOXES: Dict[str, Tuple[Dict[str, object], Dict[str, object], Set[str]]] = {
     # what the box does: functions of the model, methods of its manager, and the statements of which at least one catches it
     "no bus-off is said and no delay kept": (
@@ -978,12 +1171,37 @@ WRONG_BOXES: Dict[str, Tuple[Dict[str, object], Dict[str, object], Set[str]]] = 
         {}, {"from-rest", "from-start"},
     ),
     "start is asked without stop": ({"next_step_coming_up": starts_without_stopping}, {}, {"start-after-stop"}),
+    "listening does not reach step 15": ({"ONLINE_STEPS": (4, 5, 16)}, {}, {"anew"}),
+    "listening does not reach step 16": ({"ONLINE_STEPS": (4, 5, 15)}, {}, {"anew"}),
+    "listening does not reach step 4": ({"ONLINE_STEPS": (5, 15, 16)}, {}, {"last"}),
+    "listening does not reach step 5": ({"ONLINE_STEPS": (4, 15, 16)}, {}, {"last"}),
+    "listening reaches step 6": ({"ONLINE_STEPS": (4, 5, 6, 15, 16)}, {}, {"anew"}),
+    "listening reaches step 7": ({"ONLINE_STEPS": (4, 5, 7, 15, 16)}, {}, {"anew"}),
+    "listening reaches step 8": ({"ONLINE_STEPS": (4, 5, 8, 15, 16)}, {}, {"anew"}),
+    "listening reaches step 3": ({"ONLINE_STEPS": (3, 4, 5, 15, 16)}, {}, {"anew"}),
+    "TX offline is turned too": ({"quiet_twin": every_pdu_mode_turned}, {}, {"offline"}),
+    "setting twice hands out twice": ({}, {"listen": handed_out_each_time}, {"again"}),
+    "a call to listen tells full": ({"online_records": online_with_full}, {}, {"full-told-by"}),
+    "a call to listen is noted by the mode manager": ({"online_records": full_noted}, {}, {"anew"}),
+    "clearing hands out 2": ({}, {"listen": cleared_with_2}, {"aloud"}),
+    "setting hands out online": ({}, {"listen": set_with_0}, {"quiet"}),
+    "a tick hands out online while listening": ({}, {"tick": ticks_as_ever}, {"quiet"}),
+    "ticks do not count while listening": ({}, {"tick": slow_while_listening}, {"nothing-else"}),
+    "a change of listening counts as a tick": ({}, {"listen": change_counts_as_a_tick}, {"nothing-else"}),
+    "a call to listen forgets the answers": ({}, {"listen": answers_forgotten}, {"answer-taken"}),
+    "a stall ends listening": ({}, {"stall": stall_ends_listening}, {"quiet"}),
+    "a bus-off ends listening": ({}, {"bus_off": bus_off_ends_listening}, {"quiet"}),
+    "listening reaches the first network alone": ({}, {"listen": first_network_alone}, {"last"}),
+    "a call to listen in a short buffer is accepted": ({}, {"listen": listen_in_a_short_buffer}, {"listen-answered"}),
+    "a value is refused before the room": ({}, {"listen": value_before_room}, {"listen-answered"}),
+    "any value above 1 sets listening": ({}, {"listen": any_value_sets}, {"listen-answered"}),
 }
 # These are tried first: random lives show some of it late.
 ARRANGED_LIVES = (
     there_and_back, stalls_and_falls, stalls_and_wishes, short_stall, two_chips, faults_in_silent, at_the_threshold, below_and_at_the_threshold,
     troubles_on_the_way, down_and_up_without_a_transceiver, down_and_up_with_a_transceiver, down_and_up_with_partial_networking,
-    silent_on_the_way, sleep_refused,
+    silent_on_the_way, sleep_refused, listening_in_each_step, listening_all_along, listening_by_turns, listening_after_a_bus_off,
+    refused_listening,
 )
 
 
@@ -1013,6 +1231,14 @@ BROKEN_IN_ONE_LIFE: Dict[str, Tuple[Callable[[], Life], Set[str]]] = {
     "start is asked without stop": (
         down_and_up_with_a_transceiver, {"start-after-stop", "from-rest", "records-from-rest", "from-start", "records-from-start"},
     ),
+    "listening does not reach step 15": (listening_in_each_step, {"anew", "last"}),
+    "listening does not reach step 16": (listening_in_each_step, {"anew", "last"}),
+    "listening reaches step 6": (listening_after_a_bus_off, {"anew"}),
+    "setting twice hands out twice": (listening_in_each_step, {"again"}),
+    "TX offline is turned too": (listening_after_a_bus_off, {"offline", "online-with-full", "nothing-else"}),
+    "a tick hands out online while listening": (listening_after_a_bus_off, {"quiet", "last"}),
+    "ticks do not count while listening": (listening_all_along, {"nothing-else"}),
+    "a value is refused before the room": (refused_listening, {"listen-answered"}),
 }
 
 
@@ -1143,6 +1369,56 @@ class Promises(unittest.TestCase):
         self.assertGreater(answers[model.ACCEPTED], HISTORIES // 2)
         for number in (Refusal.NOT_TAKEN, Refusal.UNKNOWN_HANDLE, Refusal.BUFFER_TOO_SHORT):
             self.assertGreater(answers[number], HISTORIES // 20)
+
+    def test_listening_is_changed_in_many_histories(self):
+        """Calls to listen are accepted and refused; of those that change something many hand it out, and many hand out nothing."""
+        answers, handed = Counter(), Counter()
+        for seed in range(HISTORIES):
+            entries = random_life(Random(seed)).entries
+            for number, (call, answer, records) in enumerate(entries):
+                if call.name == LISTEN:
+                    answers[answer] += 1
+                    handed[listening(entries[:number]) != listening(entries[:number + 1]), bool(records)] += 1
+        self.assertGreater(answers[model.ACCEPTED], HISTORIES)
+        for number in (Refusal.VALUE_OUT_OF_RANGE, Refusal.BUFFER_TOO_SHORT):
+            self.assertGreater(answers[number], HISTORIES // 4)
+        self.assertEqual(handed[False, True], 0)
+        for found in (handed[True, True], handed[True, False], handed[False, False]):
+            self.assertGreater(found, HISTORIES // 2)
+
+    def test_a_controller_may_have_been_handed_online_last_while_listening(self):
+        """A bus-off, and then listening is set: in step 6 nothing goes out for it. So "while the manager listens no controller was last handed
+        online" is false; it is true where the network is full or held."""
+        life = listening_after_a_bus_off()
+        self.assertEqual(faults(life), set())
+        parts = [life.entries[:number + 1] for number in range(len(life.entries))]
+        last = [last_pdu(0, part) if listening(part) else None for part in parts]
+        first = next(number for number, (call, _, _) in enumerate(life.entries) if call.name == LISTEN)
+        # the call itself, the tick that asks to start, the answer; then TX offline; then full, and the ticks after it
+        self.assertEqual(last[first:first + 7], [0, 0, 0, 1, 2, 2, 2])
+        self.assertEqual([life.entries[place].records for place in (first - 1, first)], [[(8, 1, 1), (6, 1, 1), (7, 1, 3)], []])
+
+    def test_a_network_does_not_see_listening(self):
+        """In what it sees of a tick online is online, and of a call to listen it sees nothing; TX offline and all else it sees as it is."""
+        records = [(3, 0, 2), (3, 1, 0), (3, 1, 1), (6, 1, 2), (1, 1, 2)]
+        plain = [(3, 0, 0), (3, 1, 0), (3, 1, 1), (6, 1, 2), (1, 1, 2)]
+        self.assertEqual(plainly(Call(TICK, (), FULL_ROOM), model.ACCEPTED, records), plain)
+        self.assertEqual(plainly(SETS[0], Refusal.BUFFER_TOO_SHORT, records), plain)
+        self.assertEqual(plainly(SETS[0], model.ACCEPTED, records), plain[2:])
+        for life in (listening_all_along(), listening_by_turns(), listening_after_a_bus_off()):
+            [network] = life.networks
+            heard = [view(network, *entry) for entry in life.entries if entry.call.name == LISTEN]
+            self.assertEqual({(entry.sight, len(entry.records)) for entry in heard}, {(NOTHING, 0)})
+            others = [entry for entry in life.entries if entry.call.name != LISTEN]
+            manager = started(life.networks)
+            without = [entry_of(manager, entry.call) for entry in others]
+            self.assertNotEqual(others, without)
+            self.assertEqual([view(network, *entry) for entry in others], [view(network, *entry) for entry in without])
+
+    def test_full_is_told_on_the_same_ticks_while_listening(self):
+        """As in the life of stalls and bus-offs without it: on the third tick after each stall, after the bus-offs by the delays."""
+        calls = {0: WANTS[Mode.FULL] + SETS, 7: STALLS, 10: STALLS, 13: STALLS, 16: FALLS, 20: STALLS, 23: FALLS}
+        self.assertEqual(ticks_that_tell_full(prompt_life(calls, 34)), ticks_that_tell_full(stalls_and_falls()))
 
     def test_one_fault_of_two_chips_brings_the_short_delay(self):
         """Full is told on the third tick after the last report of one fault, by the short delay of 1, on the seventh after a second one, by the long

@@ -5,6 +5,7 @@ Where a program is needed, the model stands in for it, as it is or with a fault 
 """
 
 import os
+import re
 import shutil
 import subprocess
 import sys
@@ -22,9 +23,9 @@ import played_cases
 import random_traces
 import run_program
 import trace_cases
-from coverage import CONFIG, Delay, Ending, Place, Reached, Situation, Transition, watched_cantrace
+from coverage import CONFIG, Delay, Ending, Listened, Place, Reached, Sending, Situation, Transition, watched_cantrace
 from model import EventTag, Mode, Outfit, Relation, Tag
-from traces import LARGEST, LARGEST_BY_THE_NEWER_RULE, NOT_OK, OF_OUTFIT, SHEET, TICK, WHOLE_CASE, Case, Trace, answer_to, arrange
+from traces import LARGEST, LARGEST_BY_THE_NEWER_RULE, NOT_OK, OF_OUTFIT, OFF, SHEET, TICK, WHOLE_CASE, Case, Trace, answer_to, arrange
 from traces import by_the_newer_rule, field, network
 
 TESTS_FOLDER = Path(__file__).resolve().parent
@@ -46,6 +47,8 @@ NEXT_STEPS = {
 BUS_OFF_STEPS = {(3, 3), (4, 6), (5, 6), (6, 6), (7, 6), (8, 6), (15, 6), (16, 6)}
 # X2, X3: those that take a stall, and the step after it.
 STALL_STEPS = {(4, 15), (5, 15)}
+# L3: those in which a change of listening is handed out.
+HANDING_STEPS = (4, 5, 15, 16)
 
 
 def reached_by(*inputs):
@@ -98,6 +101,20 @@ class PossibleTest(unittest.TestCase):
         names = {rule: {delay.count: delay.name for delay in coverage.possible()["delays"] if delay.rule == rule} for rule in ("older", "newer")}
         self.assertEqual({"below": "short", "at": "short", "above": "long"}, names["older"])
         self.assertEqual({"below": "short", "at": "long", "above": "long"}, names["newer"])
+
+    def test_listening_in_every_step(self):
+        """L3: set and cleared, with a change and without, in each of seventeen steps; kind 3 goes out for a change in four of them."""
+        listens = coverage.possible()["listens"]
+        self.assertEqual(68, len(listens))
+        self.assertEqual({(step, True) for step in HANDING_STEPS}, {(each.step, each.changes) for each in listens if each.handed})
+
+    def test_kind_3_of_ticks(self):
+        """T23, T24, T11 and L2: full from 3, 7, 8 and 16, with 0 or 2; TX offline from 4, 5, 6, 7 and 16, listening or not."""
+        found = {(sending.argument, sending.listening): set() for sending in coverage.possible()["sending"]}
+        for sending in coverage.possible()["sending"]:
+            found[sending.argument, sending.listening].add(sending.step)
+        full, offline = {3, 7, 8, 16}, {4, 5, 6, 7, 16}
+        self.assertEqual({(0, False): full, (2, True): full, (1, False): offline, (1, True): offline}, found)
 
     def test_all_is_missing_where_nothing_is_run(self):
         self.assertEqual(sum(len(things) for things in coverage.possible().values()), len(coverage.missing(Reached())))
@@ -156,6 +173,56 @@ class ReachedTest(unittest.TestCase):
         trace.stall(index=2)
         after = reached_by(trace.recorded())["transitions"] - reached_by(trace.recorded()[:before])["transitions"]
         self.assertEqual({Transition(Outfit.PARTIAL_NETWORKING, EventTag.STALL, 5, 15)}, after)
+
+    def test_listening(self):
+        """In step 10, then in step 4 of the first network and step 5 of the second; a refused call is not noted."""
+        trace = Trace(*(network(handle, [handle], times=(2, 5, handle)) for handle in (3, 1)))
+        for value in (0, 1, 1, 0, 2):
+            trace.listen(value)
+        self.assertEqual(
+            {Listened(False, False, 10, False), Listened(True, True, 10, False), Listened(True, False, 10, False), Listened(False, True, 10, False)},
+            reached_by(trace.recorded())["listens"],
+        )
+        before = trace.recorded()
+        trace.want(Mode.FULL, 1)
+        trace.go_to(4)
+        trace.tick()
+        for value in (1, 1, 255):
+            trace.listen(value)
+        after = reached_by(trace.recorded())["listens"] - reached_by(before)["listens"]
+        self.assertEqual({Listened(True, changes, step, changes) for changes in (False, True) for step in (4, 5)}, after)
+
+    def test_sending(self):
+        """Full from step 3; then, while the manager listens, the wait and full after it, silent and back."""
+        trace = Trace(OF_OUTFIT[Outfit.TRANSCEIVER])
+        trace.go_to(4)
+        self.assertEqual({Sending(3, False, 0)}, reached_by(trace.recorded())["sending"])
+        trace.listen()
+        for step in (7, 4, 8, 4):
+            trace.go_to(step)
+        expected = {Sending(3, False, 0), Sending(6, True, 1), Sending(7, True, 2), Sending(4, True, 1), Sending(8, True, 2)}
+        self.assertEqual(expected, reached_by(trace.recorded())["sending"])
+
+    def test_a_wrong_model_of_listening_is_noticed(self):
+        """Online is not turned; TX offline is; a step is left out; a step too many hands out."""
+        trace = Trace(OF_OUTFIT[Outfit.NO_TRANSCEIVER])
+        trace.go_to(15)
+        trace.listen()
+        trace.go_to(8)
+        trace.listen(OFF)
+        plain = Reached()
+        watched_cantrace(trace.recorded(), plain)
+        self.assertEqual([], coverage.surprises(plain))
+        for name, wrong, words in (
+            ("quiet_twin", lambda record: record, "sending: a tick in step 16, listening, argument 0"),
+            ("quiet_twin", lambda record: (*record[:2], 2) if record[0] == 3 else record, "sending: a tick in step 4, listening, argument 2"),
+            ("ONLINE_STEPS", (4, 5, 16), "listens: listening set in step 15, a change, not handed out"),
+            ("ONLINE_STEPS", (4, 5, 8, 15, 16), "listens: listening cleared in step 8, a change, handed out"),
+        ):
+            reached = Reached()
+            with mock.patch.object(model, name, wrong):
+                watched_cantrace(trace.recorded(), reached)
+            self.assertIn(words, coverage.surprises(reached))
 
     def test_delays(self):
         """One bus-off after the other, with the threshold 2; where both delays are the same nothing is noted."""
@@ -229,7 +296,11 @@ class ReachedTest(unittest.TestCase):
             (b"", Ending.SHEET_REFUSED),
             (SHEET + b"\x16", Ending.HEADER_CUT),
             (SHEET + TICK + b"\x0f\x00\x00", Ending.TAG_BELOW),
-            (SHEET + b"\x19\x00\x00", Ending.TAG_UNKNOWN),
+            (SHEET + b"\x1a\x00\x00", Ending.TAG_UNKNOWN),
+            (SHEET + b"\x19\x00\x00", Ending.LENGTH_BELOW),
+            (SHEET + b"\x19\x00\x02\x01\x01", Ending.LENGTH_ABOVE),
+            (SHEET + b"\x19\x00\x01", Ending.VALUE_CUT),
+            (SHEET + b"\x19\x00\x01\x07", Ending.WHOLE),
             (SHEET + b"\x16\x00\x01", Ending.LENGTH_ABOVE),
             (SHEET + b"\x17\x00\x00", Ending.LENGTH_BELOW),
             (SHEET + b"\x18\x00\x00", Ending.LENGTH_BELOW),
@@ -362,7 +433,8 @@ class StoredCasesTest(unittest.TestCase):
     def test_they_are_many_and_not_too_long(self):
         files = trace_cases.expected_files(self.cases, self.outputs)
         self.assertGreaterEqual(len(self.cases), 200)
-        self.assertLess(len(files["stdout"]), 700_000)
+        # the longest inputs have 380,000 bytes of it, and the cases of listening 27,000
+        self.assertLess(len(files["stdout"]), 730_000)
         self.assertEqual([case.data for case in self.cases], batches.unpack(files["stdin"]))
 
     def test_they_reach_all(self):
@@ -376,7 +448,7 @@ class StoredCasesTest(unittest.TestCase):
     def test_played_cases_run_to_their_end(self):
         groups = (
             played_cases.tick_cases, played_cases.call_cases, played_cases.bus_off_cases, played_cases.network_cases,
-            played_cases.reset_cases, played_cases.stall_cases, played_cases.threshold_cases,
+            played_cases.reset_cases, played_cases.stall_cases, played_cases.threshold_cases, played_cases.listen_cases,
         )
         for case in (case for group in groups for case in group()):
             lines = model.cantrace(case.data).splitlines()
@@ -386,7 +458,7 @@ class StoredCasesTest(unittest.TestCase):
     def test_cases_that_are_left_out_are_noticed(self):
         reached = Reached()
         for case in self.cases:
-            if case.name not in ("partial, ticks in step 14", "partial, a stall in step 14"):
+            if case.name not in ("partial, ticks in step 14", "partial, a stall in step 14", "partial, listening in each step"):
                 watched_cantrace(case.data, reached)
         faults = trace_cases.coverage_faults(reached)
         self.assertIn("trace_cases: not reached: transitions: partial, tick, 14 to 14", faults)
@@ -403,6 +475,28 @@ class StoredCasesTest(unittest.TestCase):
             "trace_cases: not reached: delays: newer rule, at the threshold, the long delay",
             "trace_cases: not reached: delays: newer rule, below the threshold, the short delay",
         ], trace_cases.coverage_faults(reached))
+
+    def test_cases_of_listening_that_are_left_out_are_noticed(self):
+        reached = Reached()
+        left_out = {case.name for case in played_cases.listen_cases()}
+        for case in self.cases:
+            if case.name not in left_out:
+                watched_cantrace(case.data, reached)
+        faults = trace_cases.coverage_faults(reached)
+        self.assertIn("trace_cases: not reached: records: kind 3 argument 2", faults)
+        self.assertIn("trace_cases: not reached: listens: listening set in step 15, a change, handed out", faults)
+        self.assertIn("trace_cases: not reached: listens: listening cleared in step 14, no change, not handed out", faults)
+        self.assertIn("trace_cases: not reached: sending: a tick in step 8, listening, argument 2", faults)
+
+    def test_listening_changes_no_other_record_and_no_time(self):
+        """A whole life with listening and without: line by line the same, but for online."""
+        for outfit, name in coverage.OUTFIT_NAMES.items():
+            data = played_cases.listening_all_along(outfit)
+            off = data.replace(field(EventTag.LISTEN, 1), field(EventTag.LISTEN, 0))
+            with self.subTest(name):
+                quiet, usual = model.cantrace(data), model.cantrace(off)
+                self.assertNotEqual(quiet, usual)
+                self.assertEqual(re.sub(r" 3:(\d+):2", r" 3:\1:0", quiet), usual)
 
     def test_cases_of_places_that_are_left_out_are_noticed(self):
         reached = Reached()
@@ -506,6 +600,17 @@ class RandomInputsTest(unittest.TestCase):
                 self.assertGreater(moves[Transition(outfit, EventTag.STALL, *move)], 0)
             for move in ((15, 15), (15, 16), (16, 16), (16, 4), (16, 8)):
                 self.assertGreater(moves[Transition(outfit, EventTag.TICK, *move)], 0)
+
+    def test_listening_is_changed_and_refused(self):
+        reached = Reached()
+        for seed in range(60):
+            watched_cantrace(random_traces.long_trace(Random(seed)), reached)
+        answers = reached.times["answers"]
+        self.assertGreater(answers[EventTag.LISTEN, model.ACCEPTED], 100)
+        self.assertGreater(answers[EventTag.LISTEN, model.Refusal.VALUE_OUT_OF_RANGE], 10)
+        self.assertEqual(coverage.possible()["sending"], set(reached.times["sending"]))
+        changes = {each for each in coverage.possible()["listens"] if each.changes and each.step in model.UP_STEPS}
+        self.assertEqual(set(), changes - set(reached.times["listens"]))
 
     def test_sheets_are_good_and_varied(self):
         numbers, outfits, rules = set(), set(), set()

@@ -1,7 +1,7 @@
 """The rules in C, against which the manager is measured: on recordings they give the very lines of the model.
 
-What is measured, and compared by `speed/run sums`, has no field 07, no request for silent, no stall and no refusal; recordings have all of
-them. A C compiler of this machine is needed; where there is none, the test is left out.
+What is measured, and compared by `speed/run sums`, has no field 07, no request for silent, no stall, no call to listen and no refusal; recordings
+have all of them. A C compiler of this machine is needed; where there is none, the test is left out.
 """
 
 import shutil

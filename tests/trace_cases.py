@@ -40,6 +40,8 @@ GROUPS: List[Callable[[], Iterator[Case]]] = [
     damaged_cases.field_07_cases,
     played_cases.threshold_cases,
     damaged_cases.pointed_at_cases,
+    played_cases.listen_cases,
+    damaged_cases.bad_listen_cases,
 ]
 
 

@@ -5,7 +5,7 @@ closed loop: every request handed out is answered before the next tick, or refus
 """
 
 from dataclasses import replace
-from typing import List, NamedTuple, Optional, Tuple
+from typing import Iterator, List, NamedTuple, Optional, Tuple
 
 import model
 from coverage import Situation, situation_of
@@ -15,6 +15,9 @@ Event = Tuple[int, ...]
 
 OK = 1
 NOT_OK = 0
+# What a call to listen says.
+ON = 1
+OFF = 0
 REQUEST_KINDS = (Kind.CONTROLLER_MODE, Kind.TRANSCEIVER_MODE, Kind.CLEAR_WAKE_FLAG, Kind.CHECK_WAKE_FLAG)
 FULL_STEPS = (Step.CHECKING, Step.FULL)
 RECOVERY_STEPS = (Step.RESTARTING, Step.WAITING)
@@ -186,6 +189,10 @@ class Trace:
         """The sending of a network has stuck. Where that is taken nothing was asked of the network, so no request becomes stale."""
         self.event(EventTag.STALL, self.network(index).settings.handle)
 
+    def listen(self, value: int = ON) -> None:
+        """All networks are to hear and stay quiet, or to send again. It asks for nothing and forgets nothing, so no request becomes stale."""
+        self.event(EventTag.LISTEN, value)
+
     # Runs of events
 
     def reply(self, ok: int = OK) -> None:
@@ -205,13 +212,19 @@ class Trace:
         if self.network(index).wanted != mode:
             self.want(mode, index)
 
-    def go_to(self, step: int, index: int = 0) -> None:
-        """Bring a network to a step by requests, answers, bus-offs, stalls and ticks; where it is there already, do nothing."""
+    def way_to(self, step: int, index: int = 0) -> Iterator[None]:
+        """Bring a network to a step, turn by turn; after each of them something else may happen."""
         for _ in range(MOST_TURNS_OF_A_WAY):
             if self.network(index).step == step:
                 return
             self.go_on(step, index)
+            yield
         raise ValueError(f"step {step} was not reached")
+
+    def go_to(self, step: int, index: int = 0) -> None:
+        """Bring a network to a step by requests, answers, bus-offs, stalls and ticks; where it is there already, do nothing."""
+        for _ in self.way_to(step, index):
+            pass
 
     def go_on(self, target: int, index: int) -> None:
         """A bus-off, a stall, or one replied tick more, on the way to the target step."""

@@ -6,9 +6,11 @@ from recording_fields import FIRST_EVENT_TAG, LONGEST_RECORDING, Fault, Field, T
 from recording_output import ACCEPTED, EVENTS_WITH_RECORDS, TOO_LONG, ConfigLine, EventLine, Output, Recording, ids_in, read_output
 from recording_script import field_line
 from recording_sheet import facts_at, marked_bytes, pointers
-from recording_words import ADVICE, AT_THE_THRESHOLD, CALL_REFUSALS, MODE_WORDS, NO_COMMUNICATION, NO_SHEET, OF_A_RESET, SAME_FAULT, SHEET_ENDS
-from recording_words import SHEET_FAULTS, SHEET_REFUSALS, STALL_OUTLOOK, TX_OFFLINE, Kind, Record, event_words, record_words
+from recording_words import ADVICE, AT_THE_THRESHOLD, CALL_REFUSALS, LISTEN_OUTLOOK, MODE_WORDS, NO_COMMUNICATION, NO_SHEET, OF_A_RESET
+from recording_words import SAME_FAULT, SHEET_ENDS, SHEET_FAULTS, SHEET_REFUSALS, STALL_OUTLOOK, TX_OFFLINE, Kind, Record, event_words
+from recording_words import record_words
 
+NOTHING_HANDED_OUT = "accepted: nothing is handed out"
 WIDEST_LINE = 28
 GAP = "  "
 # As many as the longest field of a sheet has.
@@ -70,7 +72,8 @@ def config_meanings(recording: Recording, config: ConfigLine) -> List[str]:
 
 class Troubled:
     """The networks that are being reset: from a stall that is accepted to the next notice for the mode manager, which says how it ends. And those
-    that are restarting: from a bus-off that is told to a TX offline of one of their controllers, or to no for the mode manager."""
+    that are restarting: from a bus-off that is told to a TX offline of one of their controllers, or to no for the mode manager. And whether the
+    manager listens, which no network can tell."""
 
     def __init__(self, recording: Recording) -> None:
         self.handle_of = {
@@ -78,6 +81,7 @@ class Troubled:
         }
         self.resetting: Set[int] = set()
         self.restarting: Set[int] = set()
+        self.listening = 0
 
     def record_words(self, record: Record) -> str:
         """A record in a sentence; of a request to a controller also whether it is for the reset."""
@@ -103,8 +107,16 @@ class Troubled:
         return [self.record_words(record) for record in event.records] + again
 
 
+    def listen_meanings(self, event: EventLine) -> List[str]:
+        """What an accepted call to listen says, and where it changes something what that brings."""
+        value = event.field.value[0]
+        outlook = [LISTEN_OUTLOOK[value]] if value != self.listening and value in LISTEN_OUTLOOK else []
+        self.listening = value
+        return ([record_words(record) for record in event.records] or [NOTHING_HANDED_OUT]) + outlook
+
+
 def refusal_meanings(event: EventLine) -> List[str]:
-    """Why an event is refused, and of silent and of a stall what to do."""
+    """Why an event is refused, and of silent, of a stall and of a call to listen what to do."""
     advice = ADVICE.get(event.field.tag, {}).get(event.answer)
     return [refusal_words(event.answer, CALL_REFUSALS[event.answer])] + ([] if advice is None else [advice])
 
@@ -119,10 +131,12 @@ def event_meanings(troubled: Troubled, event: EventLine) -> List[str]:
         return ["accepted: stored, and the next tick looks at it"]
     if event.field.tag == Tag.STALL:
         return troubled.stall_meanings(event)
+    if event.field.tag == Tag.LISTEN:
+        return troubled.listen_meanings(event)
     if event.field.tag == Tag.BUS_OFF and event.records:
         return troubled.bus_off_meanings(event)
     if event.field.tag in EVENTS_WITH_RECORDS:
-        return [troubled.record_words(record) for record in event.records] or ["accepted: nothing is handed out"]
+        return [troubled.record_words(record) for record in event.records] or [NOTHING_HANDED_OUT]
     return ["taken"]
 
 

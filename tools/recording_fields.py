@@ -29,6 +29,7 @@ class Tag:
     TICK = 0x16
     POLL = 0x17
     STALL = 0x18
+    LISTEN = 0x19
 
 
 VALUE_BYTES = {
@@ -48,6 +49,7 @@ VALUE_BYTES = {
     Tag.TICK: 0,
     Tag.POLL: 1,
     Tag.STALL: 1,
+    Tag.LISTEN: 1,
 }
 
 

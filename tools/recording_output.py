@@ -33,7 +33,7 @@ TARGET_TAG = {
     Kind.MODE_MANAGER: Tag.HANDLE,
     Kind.EVENT_MANAGER: Tag.HANDLE,
 }
-EVENTS_WITH_RECORDS = (Tag.TICK, Tag.BUS_OFF, Tag.STALL)
+EVENTS_WITH_RECORDS = (Tag.TICK, Tag.BUS_OFF, Tag.STALL, Tag.LISTEN)
 
 
 class NotItsOutput(Exception):
@@ -179,7 +179,7 @@ def read_event(recording: Recording, field: Field, number: int, line: str) -> Ev
     if field.tag == Tag.POLL:
         return EventLine(line, number, field, answer, [], read_polled(rest))
     if rest and field.tag not in EVENTS_WITH_RECORDS:
-        raise NotItsOutput(f"only a tick, a bus-off and a stall hand out records, and this is: {event_words(field)}")
+        raise NotItsOutput(f"only a tick, a bus-off, a stall and a call to listen hand out records, and this is: {event_words(field)}")
     return EventLine(line, number, field, answer, [read_record(recording, text) for text in rest], None)
 
 

@@ -61,6 +61,7 @@ MODE = Part("mode", words={"no": Mode.NO, "silent": Mode.SILENT, "full": Mode.FU
 CONTROLLER_MODE = Part("controller mode", words={"stopped": 0, "started": 1, "sleep": 2}, before_number=("mode",))
 TRANSCEIVER_MODE = Part("transceiver mode", words={"normal": 0, "standby": 1}, before_number=("mode",))
 RESULT = Part("result", words={"ok": 1, "refused": 0}, before_number=("value", "ok"))
+LISTENING = Part("value to listen", words={"on": 1, "off": 0})
 
 
 class Form(NamedTuple):
@@ -87,6 +88,7 @@ FORMS = {
     "tick": Form(Tag.TICK),
     "poll": Form(Tag.POLL, [HANDLE]),
     "stall": Form(Tag.STALL, [HANDLE]),
+    "listen": Form(Tag.LISTEN, [LISTENING]),
 }
 NAME_OF_TAG = {form.tag: name for name, form in FORMS.items()}
 WITHOUT_PARTIAL = field_bytes(Tag.PARTIAL, bytes([0]))

@@ -39,6 +39,7 @@ class RecordWords(NamedTuple):
 
 
 TX_OFFLINE = 1
+TX_OFFLINE_ACTIVE = 2
 NO_COMMUNICATION = 0
 
 CALL_REFUSALS = {
@@ -48,7 +49,7 @@ CALL_REFUSALS = {
     0x03: "unknown handle",
     0x04: "unknown controller",
     0x05: "unknown transceiver",
-    0x21: "a mode or ok value is out of its range",
+    0x21: "a mode, an ok value or a value to listen is out of its range",
     0x08: "silent is wanted while the network is asleep (step 0)",
     0x24: "silent is wanted while the network comes up (steps 1 to 3)",
     0x25: "silent is wanted while the network goes down (steps 9 to 14)",
@@ -68,11 +69,21 @@ ADVICE = {
         0x03: "compare the caller's handles with the sheet",
         0x22: "it is taken only while full is told: if sending sticks then, make it again",
     },
+    # R9, R13, R24: of a call to listen.
+    Tag.LISTEN: {
+        0x20: "it has not happened: lend 3 bytes for each controller of the sheet or more, and make it again",
+        0x21: "1 sets listening, and 0 clears it",
+    },
 }
 # S27: of a network in whose sheet field 07 stands, by its handle and its threshold.
 AT_THE_THRESHOLD = "network {}: the long delay at the threshold of {} already"
 # X3: what a stall brings.
 STALL_OUTLOOK = "the next tick asks all its controllers to stop, a later one to start"
+# L2: what a change of listening brings for those that become full later.
+LISTEN_OUTLOOK = {
+    1: "from here on a network that becomes full hears and does not send",
+    0: "from here on a network that becomes full may send",
+}
 # B2: what a bus-off says in step 6.
 SAME_FAULT = "taken for the same fault, which is counted already"
 # T29, T30: behind a request that belongs to the reset.
@@ -112,6 +123,7 @@ RECORD_WORDS = {
     (Kind.TRANSCEIVER_MODE, 1): RecordWords("ask transceiver {} to go to standby", "transceiver {} standby"),
     (Kind.PDU_MODE, 0): RecordWords("allow controller {} to send (online)", "controller {} online"),
     (Kind.PDU_MODE, TX_OFFLINE): RecordWords("forbid controller {} to send (TX offline)", "controller {} TX offline"),
+    (Kind.PDU_MODE, TX_OFFLINE_ACTIVE): RecordWords("let controller {} hear and not send (TX offline, active)", "controller {} hears only"),
     (Kind.CLEAR_WAKE_FLAG, 0): RecordWords("ask transceiver {} to clear its wake flag", "clear wake flag of {}"),
     (Kind.CHECK_WAKE_FLAG, 0): RecordWords("ask transceiver {} to check its wake flag", "check wake flag of {}"),
     (Kind.COMMUNICATION_MANAGER, Mode.NO): RecordWords("tell the communication manager: network {} no communication", "told no"),
@@ -134,7 +146,9 @@ EVENT_WORDS = {
     Tag.TICK: "tick",
     Tag.POLL: "poll of network {0}",
     Tag.STALL: "sending of network {0} has stuck",
+    Tag.LISTEN: "listening is {0}",
 }
+LISTEN_WORDS = {1: "set", 0: "cleared"}
 MODE_WORDS = {Mode.NO: "no communication", Mode.SILENT: "silent", Mode.FULL: "full"}
 
 
@@ -143,6 +157,8 @@ def event_words(field: Field) -> str:
     parts = [" ".join(words) for words in parts_of(field)]
     if field.tag == Tag.REQUEST:
         parts[1] = MODE_WORDS.get(field.value[1], parts[1])
+    if field.tag == Tag.LISTEN:
+        parts[0] = LISTEN_WORDS.get(field.value[0], f"asked for with {parts[0]}")
     return EVENT_WORDS[field.tag].format(*parts)
 
 

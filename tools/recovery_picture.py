@@ -18,7 +18,8 @@ RECORDING = ROOT / "examples" / "whole-case.script"
 OUTPUT = ROOT / "examples" / "whole-case.txt"
 PICTURE = ROOT / "docs" / "recovery.svg"
 
-# The field of the sheet that has the id of an event; a tick has none.
+# The field of the sheet that has the id of an event; a tick and a call to listen name nobody, and are for all networks.
+NAMING_NOBODY = (Tag.TICK, Tag.LISTEN)
 ID_TAG = {
     Tag.REQUEST: Tag.HANDLE,
     Tag.BUS_OFF: Tag.CONTROLLER,
@@ -85,8 +86,8 @@ def network_of(fields: List[Field]) -> Network:
 
 
 def concerns(network: Network, field: Field) -> bool:
-    """Whether an event is a tick or names an id of this network."""
-    return field.tag == Tag.TICK or field.value[0] in network.ids[ID_TAG[field.tag]]
+    """Whether an event is for all networks or names an id of this one."""
+    return field.tag in NAMING_NOBODY or field.value[0] in network.ids[ID_TAG[field.tag]]
 
 
 def events_of(network: Network, output: Output) -> List[Event]:
@@ -254,9 +255,9 @@ def arrow(x: int, to_x: int, y: int, words: str, colour: str) -> List[str]:
 
 
 def incoming_arrow(event: Event, y: int) -> List[str]:
-    """The arrow of an event that is no tick: from above, or from below."""
+    """The arrow of an event that is no tick: from above, as a call to listen too, or from below."""
     colour = RED if event.tag in (Tag.BUS_OFF, Tag.STALL) else BLACK
-    if ID_TAG[event.tag] == Tag.HANDLE:
+    if ID_TAG.get(event.tag, Tag.HANDLE) == Tag.HANDLE:
         return arrow(ABOVE, BAND_LEFT, y, event_in_words(event), colour)
     return arrow(BELOW, BAND_RIGHT, y, event_in_words(event), colour)
 

@@ -4,7 +4,7 @@ use Rattle.lists.specs.Lists.{Bytes}
 use Rattle.records.specs.Records.{bytes as bytesOf}
 use Rattle.slots.specs.declared.Manager.{Manager}
 use Rattle.slots.specs.Calls.{Call, read, write, start, request, poll, busOff, stall, answer, transceiverMode, clearDone, checkDone, tick}
-use Rattle.slots.specs.Calls.{handedOut, bufferWith, writtenInto}
+use Rattle.slots.specs.Calls.{listen, byRules, handedOut, bufferWith, writtenInto}
 use Rattle.calls.specs.Histories.{countsRecords}
 use Rattle.calling.specs.declared.Task.{Task}
 use Rattle.calling.specs.Returned.{callOf, lentAfter}
@@ -15,7 +15,7 @@ module _ (m : Manager) (bytes before : List ℕ) (P : Call → List ℕ → Type
     (reads : P (read bytes) before)
     (writes : P (write (length before)) (writtenInto m before)) where
   pub by-task : (task : Task) → P (callOf task bytes before) (lentAfter m (callOf task bytes before) before)
-  unfolding handedOut bufferWith bytesOf
+  unfolding byRules handedOut bufferWith bytesOf
   by-task Task.Read = reads
   by-task Task.Write = writes
   by-task Task.Start = records start refl
@@ -28,6 +28,7 @@ module _ (m : Manager) (bytes before : List ℕ) (P : Call → List ℕ → Type
   by-task (Task.ClearDone transceiver) = records (clearDone transceiver) refl
   by-task (Task.CheckDone transceiver) = records (checkDone transceiver) refl
   by-task Task.Tick = records (tick (length before)) refl
+  by-task (Task.Listen value) = records (listen value (length before)) refl
 
 -- a task that is the call
 pub record Made (c : Call) : Type 0 where
@@ -67,3 +68,4 @@ made (transceiverMode transceiver mode) f = plain (Task.TransceiverMode transcei
 made (clearDone transceiver) f = plain (Task.ClearDone transceiver)
 made (checkDone transceiver) f = plain (Task.CheckDone transceiver)
 made (tick room) f = lent Task.Tick tick (λ b. refl) room
+made (listen value room) f = lent (Task.Listen value) (listen value) (λ b. refl) room

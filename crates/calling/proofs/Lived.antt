@@ -9,7 +9,7 @@ use Rattle.slots.specs.declared.Answer.{Answer}
 use Rattle.slots.specs.declared.Manager.{Manager}
 use Rattle.slots.specs.declared.Outcome.{Outcome}
 use Rattle.slots.specs.Manager.{answerNumber}
-use Rattle.slots.specs.Calls.{Call, read, outcome, handedOut}
+use Rattle.slots.specs.Calls.{Call, read, outcome, byRules, handedOut}
 use Rattle.calls.specs.Histories.{Entry, entryOf, History, Since, begun, goes, Reached, at-new, after as led-on, countsRecords}
 use Rattle.calls.proofs.Counts.{handed-back}
 use Rattle.calling.specs.declared.Task.{Task}
@@ -21,7 +21,7 @@ use Rattle.calling.proofs.ByTask.{by-task, made}
 -- the records that a caller finds in the buffer are those that the call hands out
 records-noted : (m : Manager) (task : Task) (bytes before : List ℕ) (r : Outcome) (after : List ℕ) → Returned m task bytes before r after
     → cond (countsRecords (callOf task bytes before)) (recordsAt (r .count) after) [] ≡ handedOut m (callOf task bytes before)
-unfolding handedOut
+unfolding byRules handedOut
 records-noted m task bytes before r after g =
     by-task m bytes before (λ c left. r ≡ outcome m c → after ≡ left → cond (countsRecords c) (recordsAt (r .count) after) [] ≡ handedOut m c)
     (λ c e p q. ap (λ (b : Bool). cond b (recordsAt (r .count) after) []) e ∙ handed-back m c before r after e (record { result = p; buffer = q }))
@@ -129,6 +129,7 @@ number-accepted Answer.TooShort e = absurd (omega (arith, e))
 number-accepted Answer.NoHandle e = absurd (omega (arith, e))
 number-accepted Answer.NoController e = absurd (omega (arith, e))
 number-accepted Answer.NoTransceiver e = absurd (omega (arith, e))
+number-accepted Answer.OutOfRange e = absurd (omega (arith, e))
 number-accepted (Answer.Network refusal) e = absurd (false≢true (sym (refusal-refuses refusal) ∙ ap (eqb 0) e))
 number-accepted (Answer.Sheet fault) e = absurd (omega (arith, fault-number fault, e))
   where

@@ -8,7 +8,7 @@ use Rattle.lists.specs.Lists.{Bytes}
 use Rattle.slots.specs.declared.Manager.{Manager}
 use Rattle.slots.specs.declared.Outcome.{Outcome}
 use Rattle.slots.specs.Calls.{Call, read, write, start, request, poll, busOff, stall, answer, transceiverMode, clearDone, checkDone, tick}
-use Rattle.slots.specs.Calls.{newManager, outcome, handedOut, bufferWith, writtenInto}
+use Rattle.slots.specs.Calls.{listen, newManager, outcome, handedOut, bufferWith, writtenInto}
 use Rattle.calling.specs.declared.Task.{Task}
 
 -- a manager as it comes before any call
@@ -29,6 +29,7 @@ callOf (Task.TransceiverMode transceiver mode) bytes buffer = transceiverMode tr
 callOf (Task.ClearDone transceiver) bytes buffer = clearDone transceiver
 callOf (Task.CheckDone transceiver) bytes buffer = checkDone transceiver
 callOf Task.Tick bytes buffer = tick (length buffer)
+callOf (Task.Listen value) bytes buffer = listen value (length buffer)
 
 -- what a buffer holds after a call: the sheet from its front, or the records; a call that is lent none leaves every byte
 abbrev pub lentAfter : Manager → Call → List ℕ → List ℕ
@@ -44,6 +45,7 @@ lentAfter m (transceiverMode transceiver mode) buffer = buffer
 lentAfter m (clearDone transceiver) buffer = buffer
 lentAfter m (checkDone transceiver) buffer = buffer
 lentAfter m (tick room) buffer = bufferWith buffer (handedOut m (tick room))
+lentAfter m (listen value room) buffer = bufferWith buffer (handedOut m (listen value room))
 
 -- what was returned is the outcome of the call, and the lent buffer is as the call leaves it; what is read are bytes
 pub record Returned (m : Manager) (task : Task) (bytes before : List ℕ) (r : Outcome) (after : List ℕ) : Type 0 where

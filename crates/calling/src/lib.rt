@@ -20,6 +20,7 @@ pub enum Task {
     ClearDone { transceiver: u8 },
     CheckDone { transceiver: u8 },
     Tick,
+    Listen { value: u8 },
 }
 
 // A new manager.
@@ -54,6 +55,7 @@ pub fn make(manager: Manager, task: Task, bytes: &[u8], buffer: &mut [u8]) -> Ou
         Task::ClearDone { transceiver } => manager::clear_done(manager, transceiver),
         Task::CheckDone { transceiver } => manager::check_done(manager, transceiver),
         Task::Tick => manager::tick(manager, buffer),
+        Task::Listen { value } => manager::listen(manager, value, buffer),
     }
 }
 

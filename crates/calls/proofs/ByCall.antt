@@ -21,6 +21,7 @@ use Rattle.network.specs.declared.Report.{Report}
 use Rattle.network.specs.declared.State.{State}
 use Rattle.network.specs.declared.Trouble.{Trouble}
 use Rattle.network.specs.Replies.{replyNumber, isTaken}
+use Rattle.network.specs.Moving.{tickRecords}
 use Rattle.network.specs.Parts.{Sight, anAnswer, aRequest, aReport, nothing, sightOf, outOfRange, reportPart, hitPart, partOf, recordsOf}
 use Rattle.lists.proofs.Tests.{split}
 use Rattle.network_theorems.proofs.Parts.{by-request, by-report, by-answer, refused-stays}
@@ -30,10 +31,10 @@ use Rattle.slots.specs.declared.Slot.{Slot}
 use Rattle.slots.specs.declared.Answer.{Answer}
 use Rattle.slots.specs.declared.Manager.{Manager}
 use Rattle.slots.specs.declared.Outcome.{Outcome}
-use Rattle.slots.specs.Manager.{answerNumber, networksOf, settingsOf, networkAt, stateAt, withState, refused, accepted, allRecords, tickNeeds}
-use Rattle.slots.specs.Calls.{Call, read, write, start, request, poll, busOff, stall, answer, transceiverMode, clearDone, checkDone, tick, byStage}
+use Rattle.slots.specs.Manager.{answerNumber, networksOf, settingsOf, networkAt, stateAt, withState, refused, accepted, gathered, tickNeeds, listenNeeds}
+use Rattle.slots.specs.Calls.{Call, read, write, start, request, poll, busOff, stall, answer, transceiverMode, clearDone, checkDone, tick, listen, byStage}
 use Rattle.slots.specs.Calls.{afterReading, readInto, writingOf, startedFrom, unknown, slotAt, slotOf, bySlot, answerOf, settled, slotOutcome}
-use Rattle.slots.specs.Calls.{named, slotRecords, polled, gateOf, byGate, gateRecords, troubleNeeds, allTicked, outcome, handedOut}
+use Rattle.slots.specs.Calls.{named, slotRecords, polled, gateOf, byGate, gateRecords, troubleNeeds, allTicked, onlineAnew, listened, outcome, byRules}
 use Rattle.lent_calls.proofs.Ticks.{hit-fits, trouble-part, trouble-records}
 use Rattle.calls.specs.Histories.{isAccepted, to, toNobody, addressOf, seenAs, refusalsOf, roomOf}
 
@@ -124,7 +125,9 @@ pub record ByCall (m : Manager) (P : Call → Outcome → List Record → Type 0
       → P c (accepted (withState m i (partOf (networkAt m i) (stateAt m i) sight .state)) (length (recordsOf (networkAt m i) (stateAt m i) sight)))
       (recordsOf (networkAt m i) (stateAt m i) sight)
   pub ticks : (room : ℕ) →
-      m .stage ≡ Stage.Started → ltb room (tickNeeds m) ≡ false → P (tick room) (allTicked m) (allRecords (networksOf m) (m .states))
+      m .stage ≡ Stage.Started → ltb room (tickNeeds m) ≡ false → P (tick room) (allTicked m) (gathered tickRecords (networksOf m) (m .states))
+  pub listens : (value room : ℕ) → m .stage ≡ Stage.Started → ltb room (listenNeeds m) ≡ false → ltb 1 value ≡ false
+      → P (listen value room) (listened m (eqb 1 value)) (onlineAnew m (eqb 1 value))
   pub polls : (handle i : ℕ) → Found m (Id.OfNetwork handle) i → P (poll handle) (polled m (stateAt m i .told)) []
   pub reads : (bytes : List ℕ) → (m .stage ≡ Stage.Started → ⊥) → decode bytes .answer ≡ Verdict.Accepted
       → P (read bytes) (afterReading m (decode bytes) Verdict.Accepted) []
@@ -289,9 +292,9 @@ module _ (m : Manager) (P : Call → Outcome → List Record → Type 0) (by : B
           omega (arith, h, r .lent, ltb-false room (troubleNeeds trouble) e)
 
   -- ---- all calls
-  -- whatever holds of each case holds of every call
-  pub by-call : (c : Call) → P c (outcome m c) (handedOut m c)
-  unfolding outcome handedOut recordsOf any
+  -- whatever holds of each case, with the records that the rules of the networks make, holds of every call
+  pub by-call : (c : Call) → P c (outcome m c) (byRules m c)
+  unfolding outcome byRules recordsOf any
   by-call (read bytes) = by-read bytes (m .stage) refl
   by-call (write room) = by-write room (m .stage) refl
   by-call start = by-start (m .stage) refl
@@ -364,3 +367,11 @@ module _ (m : Manager) (P : Call → Outcome → List Record → Type 0) (by : B
   by-call (tick room) =
       by-gate (tick room) room
       (tickNeeds m) _ _ (record { refused = refl; among = refl }) (record { refused = refl; among = refl }) (λ e n. refl) (λ s e. by .ticks room s e)
+  by-call (listen value room) =
+      by-gate (listen value room) room (listenNeeds m) _ _ (record { refused = refl; among = refl }) (record { refused = refl; among = refl })
+      (λ e n. refl) (λ s e. by-value s e (ltb 1 value) refl)
+    where
+      by-value : m .stage ≡ Stage.Started → ltb room (listenNeeds m) ≡ false → (above : Bool) → ltb 1 value ≡ above
+          → P (listen value room) (cond above (refused m Answer.OutOfRange) (listened m (eqb 1 value))) (cond above [] (onlineAnew m (eqb 1 value)))
+      by-value s e true a = by .refuses (listen value room) Answer.OutOfRange (record { refused = refl; among = refl }) (λ _ i h. refl)
+      by-value s e false a = by .listens value room s e a

@@ -1,5 +1,5 @@
 -- Histories: calls with the answers and the records that they gave; the managers that calls can lead to; and how one network sees a call. Then the
--- answers that a call can have, and what it is lent. The rules R1, R5, R6, H2, H4 and T2 of docs/RULES.md.
+-- answers that a call can have, and what it is lent. The rules R1, R5, R6, H2, H4, T2, L1, L4 and L5 of docs/RULES.md.
 use Prim.Native.Nat.{ℕ}
 use mathlib.Core.Path.{_≡_}
 use mathlib.Core.List.{List, [], _∷_}
@@ -17,7 +17,7 @@ use Rattle.slots.specs.declared.Answer.{Answer}
 use Rattle.slots.specs.declared.Manager.{Manager}
 use Rattle.slots.specs.Manager.{answerNumber}
 use Rattle.slots.specs.Calls.{Call, read, write, start, request, poll, busOff, stall, answer, transceiverMode, clearDone, checkDone, tick}
-use Rattle.slots.specs.Calls.{newManager, busOffNeeds, stallNeeds, outcome, handedOut}
+use Rattle.slots.specs.Calls.{listen, newManager, busOffNeeds, stallNeeds, outcome, handedOut}
 
 -- R1: the one answer that is no refusal has the number 0
 abbrev pub isAccepted : Answer → Bool
@@ -60,8 +60,8 @@ pub data Address : Type 0 where
   toAll : Address
   toNobody : Address
 
--- T2, B1, X1: by the number of its answer; a tick that was refused concerns nobody, nor does a bus-off or a stall that was refused with 20 and lent
--- too few bytes
+-- T2, B1, X1, L4: by the number of its answer; a tick that was refused concerns nobody, nor does a bus-off or a stall that was refused with 20 and
+-- lent too few bytes, nor a call to listen
 abbrev pub addressOf : ℕ → Call → Address
 addressOf number (read bytes) = toNobody
 addressOf number (write room) = toNobody
@@ -76,12 +76,46 @@ addressOf number (transceiverMode transceiver mode) = to (Id.OfTransceiver trans
 addressOf number (clearDone transceiver) = to (Id.OfTransceiver transceiver) (aReport Report.Cleared)
 addressOf number (checkDone transceiver) = to (Id.OfTransceiver transceiver) (aReport Report.Checked)
 addressOf number (tick room) = cond (eqb 0 number) toAll toNobody
+addressOf number (listen value room) = toNobody
 
 -- what it is to one network
 abbrev pub seenAs : Network → Address → Sight
 seenAs n (to id sight) = cond (has id n) sight nothing
 seenAs n toAll = aTick
 seenAs n toNobody = nothing
+
+-- ---- whether the manager listens
+
+-- what a call says of that: it sets or clears it, or leaves it as it was
+pub data Switch : Type 0 where
+  turns : (listening : Bool) → Switch
+  leaves : Switch
+
+-- L1, L5: an accepted call to listen sets or clears it, an accepted start clears it, and every other call leaves it
+abbrev pub switchOf : ℕ → Call → Switch
+switchOf number (read bytes) = leaves
+switchOf number (write room) = leaves
+switchOf number start = cond (eqb 0 number) (turns false) leaves
+switchOf number (request handle mode) = leaves
+switchOf number (poll handle) = leaves
+switchOf number (busOff controller room) = leaves
+switchOf number (stall handle room) = leaves
+switchOf number (answer controller mode ok) = leaves
+switchOf number (transceiverMode transceiver mode) = leaves
+switchOf number (clearDone transceiver) = leaves
+switchOf number (checkDone transceiver) = leaves
+switchOf number (tick room) = leaves
+switchOf number (listen value room) = cond (eqb 0 number) (turns (eqb 1 value)) leaves
+
+-- so it is after the call
+abbrev pub switched : Switch → Bool → Bool
+switched (turns listening) before = listening
+switched leaves before = before
+
+-- L1, L5: the manager listens after a history exactly if the last call that sets or clears it sets it; it does not where none does
+unfoldable pub listening : History → Bool
+listening [] = false
+listening (e ∷ h) = switched (switchOf (e .number) (e .call)) (listening h)
 
 -- ---- the answers that each call can have
 
@@ -99,6 +133,7 @@ refusalsOf (transceiverMode transceiver mode) = 0x01 ∷ 0x05 ∷ 0x21 ∷ 0x22 
 refusalsOf (clearDone transceiver) = 0x01 ∷ 0x05 ∷ 0x22 ∷ []
 refusalsOf (checkDone transceiver) = 0x01 ∷ 0x05 ∷ 0x22 ∷ []
 refusalsOf (tick room) = 0x01 ∷ 0x20 ∷ []
+refusalsOf (listen value room) = 0x01 ∷ 0x20 ∷ 0x21 ∷ []
 
 -- R1: it is accepted, or has one of these refusals
 abbrev pub answersOf : Call → List ℕ
@@ -120,6 +155,7 @@ roomOf (transceiverMode transceiver mode) = 0
 roomOf (clearDone transceiver) = 0
 roomOf (checkDone transceiver) = 0
 roomOf (tick room) = room
+roomOf (listen value room) = room
 
 -- R5, H2, H4: its count is that of the records: a reading counts networks, and the writer bytes
 abbrev pub countsRecords : Call → Bool
@@ -135,3 +171,4 @@ countsRecords (transceiverMode transceiver mode) = true
 countsRecords (clearDone transceiver) = true
 countsRecords (checkDone transceiver) = true
 countsRecords (tick room) = true
+countsRecords (listen value room) = true

@@ -11,7 +11,7 @@ use Rattle.slots.specs.declared.Answer.{Answer}
 use Rattle.slots.specs.declared.Manager.{Manager}
 use Rattle.slots.specs.declared.Outcome.{Outcome}
 use Rattle.slots.specs.Manager.{answerNumber}
-use Rattle.slots.specs.Calls.{Call, read, allTicked, outcome, handedOut}
+use Rattle.slots.specs.Calls.{Call, read, allTicked, listened, outcome, handedOut}
 use Rattle.calls.specs.Histories.{isAccepted, entryOf, refusalsOf, answersOf}
 use Rattle.calls.proofs.ByCall.{ByCall, by-call}
 use Rattle.calling.specs.declared.Task.{Task}
@@ -41,12 +41,13 @@ refusal-among c number e = or-second (eqb 0 number) _ e
 
 -- every call has an answer of its list
 pub every-call-answers : (m : Manager) (c : Call) → member (entryOf m c .number) (answersOf c) ≡ true
-unfolding any allTicked
+unfolding any allTicked listened
 every-call-answers m = by-call m (λ c o rs. member (answerNumber (o .answer)) (answersOf c) ≡ true) (record {
   refuses = λ c a r f. refusal-among c (answerNumber a) (r .among);
   declines = λ c id sight i a e f d r. refusal-among c (answerNumber a) (r .among);
   takes = λ c id sight i e f t k. refl;
   ticks = λ room s e. refl;
+  listens = λ value room s e a. refl;
   polls = λ handle i f. refl;
   reads = λ bytes f e. refl;
   misreads = λ bytes fault f. fault-among bytes fault;

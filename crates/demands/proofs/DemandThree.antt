@@ -1,5 +1,5 @@
 -- Demand 3, and which bus-offs count, for every network of every started manager, over every history of calls since the start.
-use Rattle.lists.proofs.Basics.{ℕ, suc, _<_, _≤_, min, arith, eq-eqb, le-ltb, _≡_, refl, sym, ap, subst, _∙_, [], _∷_, _++_, true}
+use Rattle.lists.proofs.Basics.{ℕ, suc, _<_, _≤_, min, eq-eqb, le-ltb, _≡_, refl, sym, ap, subst, _∙_, [], _∷_, _++_, true}
 use Rattle.lists.proofs.Basics.{false, cond, eqb, ltb, length}
 use Rattle.records.specs.Records.{modeNumber}
 use Rattle.settings.specs.declared.Network.{Network}
@@ -12,7 +12,7 @@ use Rattle.slots.specs.declared.Slot.{Slot}
 use Rattle.slots.specs.declared.Manager.{Manager}
 use Rattle.slots.specs.Manager.{networksOf, networkAt, stateAt, tickNeeds}
 use Rattle.slots.specs.Calls.{Call, poll, tick, bySlot, polled, gateOf, allTicked, outcome}
-use Rattle.calls.specs.Histories.{isAccepted, Entry, entryOf, History, Since, begun, goes}
+use Rattle.calls.specs.Histories.{isAccepted, Entry, entryOf, History, Since, goes}
 use Rattle.manager_theorems.proofs.Counts.{tick-needs-paper}
 use Rattle.steps.specs.Steps.{isRestarting}
 use Rattle.network_demands.specs.Words.{told, counts}
@@ -26,7 +26,7 @@ use Rattle.network_demands.proofs.Third.{said-from, on-just-that-tick, said-fro
 use Rattle.demands.specs.View.{viewOf, viewsOf}
 use Rattle.demands.specs.Demands.{Begun, Demand3, Counting}
 use Rattle.demands.proofs.Parts.{own-slot}
-use Rattle.demands.proofs.Follow.{once, in-use, same-network, same-needs, follow, sound, ran-since, in-range, distinct}
+use Rattle.demands.proofs.Follow.{once, in-use, same-network, same-needs, follow, latest, sound, ran-since, in-range, distinct}
 
 -- ---- the views of a history that is split
 pub views-append : (n : Network) (s h : History) → viewsOf n (s ++ h) ≡ viewsOf n s ++ viewsOf n h
@@ -40,17 +40,16 @@ tick-accepted : (m : Manager) (room : ℕ) →
 unfolding outcome gateOf allTicked tickNeeds
 tick-accepted m room s e = rw (s, e) refl
 
--- the last call of a history, where it is such a tick
-last-ticked : (m₀ m : Manager) (x : History) → Begun m₀ → Since m₀ m x → (t : Entry) (h : History) → x ≡ t ∷ h → (room : ℕ) → t .call ≡ tick room
+-- the latest call of a history, where it is such a tick
+last-ticked : (m₀ m : Manager) (t : Entry) (h : History) → Begun m₀ → Since m₀ m (t ∷ h) → (room : ℕ) → t .call ≡ tick room
     → tickNeeds m₀ ≤ room → eqb 0 (t .number) ≡ true
-last-ticked m₀ _ _ b begun t h e room q l = absurd (let z : _≡_ {A = ℕ} 0 1 = cc in omega arith)
-last-ticked m₀ _ _ b (goes m h′ c s) t h e room q l =
-    let same : entryOf m c ≡ t = cc in
-    let call : c ≡ tick room = ap (λ (x : Entry). x .call) same ∙ q in
-    let f = follow m₀ m h′ b s in
-    let k : tickNeeds m ≤ room = subst (λ (needs : ℕ). needs ≤ room) (sym (same-needs m₀ m h′ f)) l in
-    ap (λ (x : Entry). eqb 0 (x .number)) (sym same) ∙ ap (λ (x : Call). isAccepted (outcome m x .answer)) call
-    ∙ tick-accepted m room (f .started) (le-ltb room (tickNeeds m) k)
+last-ticked m₀ m t h b s room q l =
+    let k = latest m₀ m (t ∷ h) s t h refl in
+    let call : k .call ≡ tick room = ap (λ (x : Entry). x .call) (k .entry) ∙ q in
+    let f = follow m₀ (k .on) h b (k .since) in
+    let fits : tickNeeds (k .on) ≤ room = subst (λ (needs : ℕ). needs ≤ room) (sym (same-needs m₀ (k .on) h f)) l in
+    ap (λ (x : Entry). eqb 0 (x .number)) (sym (k .entry)) ∙ ap (λ (x : Call). isAccepted (outcome (k .on) x .answer)) call
+    ∙ tick-accepted (k .on) room (f .started) (le-ltb room (tickNeeds (k .on)) fits)
 
 -- ---- demand 3
 module _ (m₀ : Manager) (b₀ : Begun m₀) (i : ℕ) (h₀ : i < length (networksOf m₀)) where
@@ -79,7 +78,7 @@ module _ (m₀ : Manager) (b₀ : Begun m₀) (i : ℕ) (h₀ : i < length (netw
     answered = λ m h s. first-sentence n range apart (viewsOf n h) (ran-since m₀ b₀ i h₀ m h s);
     delayed = λ m s b h r. second-sentence n range apart (viewsOf n s) (viewOf n b) (viewsOf n h) (split m s b h r);
     late-answers = λ m s b h r. late-answers n range apart (viewsOf n s) (viewOf n b) (viewsOf n h) (split m s b h r);
-    ticks = λ m t h s room q l. rw (q, last-ticked m₀ m (t ∷ h) b₀ s t h refl room q (rw (tick-needs-paper m₀ (sound m₀ b₀)) l)) refl;
+    ticks = λ m t h s room q l. rw (q, last-ticked m₀ m t h b₀ s room q (rw (tick-needs-paper m₀ (sound m₀ b₀)) l)) refl;
     on-just-that-tick = λ m t s b h r u.
         on-just-that-tick n range apart (viewOf n b) (viewsOf n h) u (viewOf n t) (viewsOf n s) (split-last m t s b h r);
     said-from = λ m s b h r u. said-from n range apart (viewOf n b) (viewsOf n h) u (viewsOf n s) (split m s b h r);

@@ -13,7 +13,7 @@ use Rattle.slots.specs.declared.Answer.{Answer}
 use Rattle.slots.specs.declared.Manager.{Manager}
 use Rattle.slots.specs.declared.Outcome.{Outcome}
 use Rattle.slots.specs.Manager.{answerNumber, settingsOf, refused, accepted}
-use Rattle.slots.specs.Calls.{Call, read, write, byStage, loaded, afterReading, readInto, writingOf, allTicked, outcome, writtenInto}
+use Rattle.slots.specs.Calls.{Call, read, write, byStage, loaded, afterReading, readInto, writingOf, allTicked, listened, outcome, writtenInto}
 use Rattle.calls.specs.Histories.{Entry, entryOf, History, Since, begun, goes}
 use Rattle.calls.proofs.ByCall.{ByCall, by-call}
 use Rattle.calling.specs.declared.Task.{Task}
@@ -47,40 +47,41 @@ record Has (s : Settings) (m : Manager) : Type 0 where
   settings : settingsOf m ≡ s
 
 -- an accepted reading gives the manager the settings that the bytes say
-record Reads (bytes : List ℕ) (o : Outcome) : Type 0 where
+record Reads (m : Manager) (bytes : List ℕ) (o : Outcome) : Type 0 where
   accepted : decode bytes .answer ≡ Verdict.Accepted
-  manager : o .manager ≡ loaded (decode bytes .settings)
+  manager : o .manager ≡ loaded m (decode bytes .settings)
 
 module _ (m : Manager) (bytes : List ℕ) where
   by-verdict : (d : Reading) (v : Verdict) → d .answer ≡ v → afterReading m d v .answer ≡ Answer.Accepted
-      → (d .answer ≡ Verdict.Accepted) × (afterReading m d v .manager ≡ loaded (d .settings))
+      → (d .answer ≡ Verdict.Accepted) × (afterReading m d v .manager ≡ loaded m (d .settings))
   by-verdict d Verdict.Accepted e a = (e, refl)
   by-verdict d (Verdict.Refused fault) e a = absurd (let z : _≡_ {A = ℕ} 0 1 = cc in omega arith)
 
-  into : readInto m bytes .answer ≡ Answer.Accepted → Reads bytes (readInto m bytes)
+  into : readInto m bytes .answer ≡ Answer.Accepted → Reads m bytes (readInto m bytes)
   unfolding readInto
   into a = let v = by-verdict (decode bytes) (decode bytes .answer) refl a in record { accepted = v .0; manager = v .1 }
 
   by-stage : (g : Stage) → byStage g (readInto m bytes) (readInto m bytes) (refused m Answer.Running) .answer ≡ Answer.Accepted
-      → Reads bytes (byStage g (readInto m bytes) (readInto m bytes) (refused m Answer.Running))
+      → Reads m bytes (byStage g (readInto m bytes) (readInto m bytes) (refused m Answer.Running))
   by-stage Stage.Empty a = into a
   by-stage Stage.Loaded a = into a
   by-stage Stage.Started a = absurd (let z : _≡_ {A = ℕ} 0 1 = cc in omega arith)
 
-  accepted-reads : outcome m (read bytes) .answer ≡ Answer.Accepted → Reads bytes (outcome m (read bytes))
+  accepted-reads : outcome m (read bytes) .answer ≡ Answer.Accepted → Reads m bytes (outcome m (read bytes))
   unfolding outcome
   accepted-reads a = by-stage (m .stage) a
 
 -- a call that is no accepted reading leaves the sheet as it is
 call-keeps : (s : Settings) (m : Manager) → Has s m → (c : Call)
     → ((bytes : List ℕ) → c ≡ read bytes → answerNumber (outcome m c .answer) ≡ 0 → ⊥) → Has s (outcome m c .manager)
-unfolding allTicked
+unfolding allTicked listened
 call-keeps s m has =
     by-call m (λ c o rs. ((bytes : List ℕ) → c ≡ read bytes → answerNumber (o .answer) ≡ 0 → ⊥) → Has s (o .manager)) (record {
       refuses = λ c a r f none. has;
       declines = λ c id sight i a e f d r none. has;
       takes = λ c id sight i e f t k none. record { loaded = has .loaded; settings = has .settings };
       ticks = λ room e k none. record { loaded = λ f. absurd (let z : _≡_ {A = ℕ} 0 1 = cc in omega arith); settings = has .settings };
+      listens = λ value room e k a none. record { loaded = has .loaded; settings = has .settings };
       polls = λ handle i f none. has;
       reads = λ bytes f a none. absurd (none bytes refl refl);
       misreads = λ bytes fault f none. has;
@@ -153,7 +154,7 @@ lived-keeps m₀ m s e h bytes l read-them none =
     let result : c .result ≡ outcome (c .on) (read bytes) = c .given ∙ ap (outcome (c .on)) (read-them .call) in
     let accepted = ap (λ (o : Outcome). o .answer) (sym result) ∙ number-accepted (c .result .answer) (c .number ∙ read-them .accepted) in
     let reads = accepted-reads (c .on) bytes accepted in
-    let new : c .result .manager ≡ loaded (decode bytes .settings) = ap (λ (o : Outcome). o .manager) result ∙ reads .manager in
+    let new : c .result .manager ≡ loaded (c .on) (decode bytes .settings) = ap (λ (o : Outcome). o .manager) result ∙ reads .manager in
     let had : Has (decode bytes .settings) (c .result .manager) =
     subst (Has (decode bytes .settings)) (sym new) (record { loaded = λ f. absurd (let z : _≡_ {A = ℕ} 0 1 = cc in omega arith); settings = refl }) in
     let has = since-keeps (decode bytes .settings) (c .result .manager) m s had (lived-since (c .result .manager) m s (c .since)) none in

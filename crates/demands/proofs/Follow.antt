@@ -12,9 +12,9 @@ use Rattle.slots.specs.declared.Stage.{Stage}
 use Rattle.slots.specs.declared.Answer.{Answer}
 use Rattle.slots.specs.declared.Manager.{Manager}
 use Rattle.slots.specs.declared.Outcome.{Outcome}
-use Rattle.slots.specs.Manager.{networksOf, settingsOf, networkAt, stateAt, refused, accepted, shares, tickNeeds}
+use Rattle.slots.specs.Manager.{networksOf, settingsOf, networkAt, stateAt, refused, accepted, summed, share, tickNeeds}
 use Rattle.slots.specs.Calls.{Call, start, byStage, startedFrom, outcome}
-use Rattle.calls.specs.Histories.{entryOf, History, Since, begun, goes}
+use Rattle.calls.specs.Histories.{Entry, entryOf, History, Since, begun, goes}
 use Rattle.calls.proofs.ByCall.{slot-network}
 use Rattle.manager_theorems.specs.Careful.{Sound}
 use Rattle.manager_theorems.proofs.Sound.{each-slot, slot-in-range, call-sound, call-settled, reached-sound}
@@ -68,7 +68,7 @@ module _ (m₀ m : Manager) (h : History) (f : Tracked m₀ m h) where
 
   pub same-needs : tickNeeds m ≡ tickNeeds m₀
   unfolding tickNeeds
-  same-needs = ap (λ (s : Settings). 3 * shares (take (s .count) (s .networks))) (f .settings)
+  same-needs = ap (λ (s : Settings). 3 * summed share (take (s .count) (s .networks))) (f .settings)
 
   pub in-use : (i : ℕ) → i < length (networksOf m₀) → i < length (networksOf m)
   in-use i l = subst (λ (s : Settings). i < length (take (s .count) (s .networks))) (sym (f .settings)) l
@@ -79,7 +79,7 @@ module _ (m₀ m : Manager) (h : History) (f : Tracked m₀ m h) where
       record { handles = g .handles; controllers = g .controllers; transceivers = g .transceivers }
 
   -- the network's part in the call, by its settings at the start
-  part : (c : Call) (i : ℕ) → i < length (networksOf m₀)
+  pub part : (c : Call) (i : ℕ) → i < length (networksOf m₀)
       → Fits (networkAt m₀ i) (stateAt m i) (viewOf (networkAt m₀ i) (entryOf m c))
       × (stateAt (outcome m c .manager) i ≡ played (networkAt m₀ i) (stateAt m i) (viewOf (networkAt m₀ i) (entryOf m c) .sight) .state)
   part c i l =
@@ -105,6 +105,22 @@ module _ (m₀ m : Manager) (h : History) (f : Tracked m₀ m h) where
 pub follow : (m₀ m : Manager) (h : History) → Begun m₀ → Since m₀ m h → Tracked m₀ m h
 follow m₀ _ _ b begun = begins m₀ b
 follow m₀ _ _ b (goes m h c s) = goes-on m₀ m h (follow m₀ m h b s) c
+
+-- ---- the latest call of a history
+-- the manager that it was made on, and what it added
+pub record Latest (m₀ m : Manager) (e : Entry) (h : History) : Type 0 where
+  pub on : Manager
+  pub since : Since m₀ on h
+  pub call : Call
+  pub entry : entryOf on call ≡ e
+  pub manager : m ≡ outcome on call .manager
+
+pub latest : (m₀ m : Manager) (x : History) → Since m₀ m x → (e : Entry) (h : History) → x ≡ e ∷ h → Latest m₀ m e h
+latest m₀ _ _ begun e h q = absurd (let z : _≡_ {A = ℕ} 0 1 = cc in omega arith)
+latest m₀ _ _ (goes m h′ c s) e h q =
+    let head : entryOf m c ≡ e = cc in
+    let tail : h′ ≡ h = cc in
+    record { on = m; since = subst (Since m₀ m) tail s; call = c; entry = head; manager = refl }
 
 -- ---- the networks of a manager that was just started
 -- their controllers are pairwise different

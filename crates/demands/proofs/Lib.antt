@@ -1,8 +1,11 @@
 pub mod DemandOne
 pub mod DemandTwo
 pub mod Apart
+pub mod Plainly
 pub mod Parts
+pub mod Switches
 pub mod Follow
+pub mod Listening
 pub mod DemandThree
 pub mod Promises
 pub mod Lives

@@ -1,4 +1,4 @@
--- Demand 3 and the figures hold of what calls returned to the code that made them.
+-- Demand 3, the figures and what is said of listening hold of what calls returned to the code that made them.
 use Rattle.lists.proofs.Basics.{_≡_, refl, sym, ap, _∙_, _∷_, _++_}
 use Rattle.slots.specs.declared.Manager.{Manager}
 use Rattle.slots.specs.declared.Outcome.{Outcome}
@@ -11,6 +11,7 @@ use Rattle.demands.specs.Demands.{Begun}
 use Rattle.demands.specs.Lives.{SinceStart}
 use Rattle.demands.proofs.DemandThree.{demand-3}
 use Rattle.demands.proofs.ComesUp.{comes-up}
+use Rattle.demands.proofs.Listening.{listening-since, listens-in}
 
 -- wherever a start was accepted, as code read it off the number that came back
 pub lived-demand-3 : (m₀ m : Manager) (s : History) (e : Entry) (h : History) → New m₀ → Lived m₀ m (s ++ (e ∷ h)) → e .call ≡ start → e .number ≡ 0
@@ -31,4 +32,6 @@ lived-demand-3 m₀ m s e h new l starts accepted =
       since = lived-since (c .result .manager) m s (c .since);
       demand = λ i used. demand-3 (c .result .manager) begun i used;
       comes-up = λ i used. comes-up (c .result .manager) begun i used;
+      listening = listening-since (c .result .manager) begun;
+      listens-in = λ i used. listens-in (c .result .manager) begun i used;
     }

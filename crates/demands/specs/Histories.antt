@@ -18,7 +18,7 @@ use Rattle.calls.specs.Histories.{Entry, entryOf, History, Since, goes}
 use Rattle.calls.specs.Computed.{computedOutcome}
 use Rattle.network_demands.specs.Words.{since, tally, ticked, toldBy, told, wanted, fell, shut, fellUp, restarting, falls, delayAt, struck}
 use Rattle.network_demands.specs.Words.{granted, lastHanded, grantedAtTicks, fullFrom, runs, firstRunning}
-use Rattle.demands.specs.View.{keep, viewOf, viewsOf}
+use Rattle.demands.specs.View.{keep, unturned, viewOf, viewsOf}
 use Rattle.demands.specs.BenchCases.{down, up}
 
 -- the history of a list of calls, the first call first, after a history
@@ -27,8 +27,8 @@ historyOf m [] h = h
 historyOf m (c ∷ cs) h = historyOf (outcome m c .manager) cs (entryOf m c ∷ h)
 
 -- with all open that it takes to compute one, and what the words of demand 3 say of it
-unfoldable computedHistory : Manager → List Call → History → History
-unfolding computedOutcome historyOf keep targetsOf ownRecord since tally toldBy told wanted restarting falls runs firstRunning granted lastHanded
+unfoldable pub computedHistory : Manager → List Call → History → History
+unfolding computedOutcome historyOf keep unturned targetsOf ownRecord since tally toldBy told wanted restarting falls runs firstRunning granted lastHanded
     grantedAtTicks fullFrom
 computedHistory m cs h = historyOf m cs h
 
@@ -43,7 +43,7 @@ abbrev startedBy : List ℕ → Manager
 startedBy sheet = run newManager (read sheet ∷ start ∷ [])
 
 -- the history of calls since then
-abbrev lived : List ℕ → List Call → History
+abbrev pub lived : List ℕ → List Call → History
 lived sheet cs = historyOf (startedBy sheet) cs []
 
 -- the mode last told of the first network, after calls since the start of a manager with the sheet
@@ -107,7 +107,7 @@ abbrev goodSummary : ℕ → ℕ → ℕ → Summary
 goodSummary told ticks due = calmSummary true 2 told ticks due
 
 -- the calls from the start to step 5: down to step 0, up to step 4, and the ensure time of three ticks
-abbrev step5 : List Call
+abbrev pub step5 : List Call
 step5 = down ++ (up ++ (tick 9 ∷ tick 9 ∷ tick 9 ∷ []))
 
 -- after a bus-off: the tick that asks controller 3 to start, its ok, and the tick that enters step 7

@@ -1,4 +1,5 @@
 pub mod View
+pub mod Listening
 pub mod BenchCases
 pub mod Demands
 pub mod Lives
@@ -10,3 +11,4 @@ pub mod PromiseBreakers
 pub mod ComesUp
 pub mod Figures
 pub mod SlowBoxes
+pub mod QuietBoxes

@@ -19,7 +19,7 @@ use Rattle.network_demands.specs.Words.{Seen, OwnHistory, since, tally, setback
 use Rattle.network_demands.specs.Words.{firstRunning, granted, lastHanded, grantedAtTicks, fullFrom, CountedOnce, Told, ToldNo, Answered, Delayed}
 use Rattle.network_demands.specs.Words.{LateAnswers}
 use Rattle.network_demands.specs.Words.{OnJustThatTick, SaidFrom, LateAfterStall, OnTheThirdTick, SaidFromTheThird}
-use Rattle.demands.specs.View.{keep, viewsOf}
+use Rattle.demands.specs.View.{keep, unturned, viewsOf}
 use Rattle.demands.specs.Demands.{TickTaken}
 
 -- as the bench sheet says it, but for the controllers, the transceiver, partial networking and how bus-offs are held against which threshold: delays
@@ -188,23 +188,23 @@ module _ where
   answers-kept-over-a-stall = not-running (tellsFull ∷ (stops ++ (stall ∷ cameUp))) refl refl
 
 -- an entry of the manager's history: a call, the number of its answer, the records handed out
-abbrev entry : Call → ℕ → List Record → Entry
+abbrev pub entry : Call → ℕ → List Record → Entry
 entry call number records = record { call = call; number = number; mode = 0; records = records }
 
 -- such a history in which the network came up and is full
-abbrev cameUpByCalls : History
+abbrev pub cameUpByCalls : History
 cameUpByCalls =
     entry (tick 9) 0 (tellsFull .records) ∷ entry (answer 3 1 1) 0 [] ∷ entry (tick 9) 0 (asks .records) ∷ entry (request 7 2) 0 [] ∷ []
 
 module _ where
   -- it accepts a bus-off that is lent 8 bytes, hands out nothing, and does not restart the controllers: full stays told
   pub short-bus-off-forgotten : Answered network (viewsOf network (entry (Call.busOff 3 8) 0 [] ∷ cameUpByCalls)) → ⊥
-  unfolding computedWords keep ownRecord targetsOf
+  unfolding computedWords keep unturned ownRecord targetsOf
   short-bus-off-forgotten a = false≢true (a refl 3 refl)
 
   -- it refuses a bus-off with 20 though 9 bytes are lent: full stays told
   pub room-denied : Answered network (viewsOf network (entry (Call.busOff 3 9) 0x20 [] ∷ cameUpByCalls)) → ⊥
-  unfolding computedWords keep ownRecord targetsOf
+  unfolding computedWords keep unturned ownRecord targetsOf
   room-denied a = false≢true (a refl 3 refl)
 
 -- ---- the second sentence

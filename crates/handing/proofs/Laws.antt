@@ -1,13 +1,15 @@
 -- What a move hands out: how many records at most, and that each names only the network's own ids.
-use Rattle.lists.proofs.Basics.{ℕ, _+_, _≤_, max, arith, eq-eqb, _≡_, refl, _∙_, List, [], _∷_, _++_, map, true, or-true, eqb, length, length-map}
+use Rattle.lists.proofs.Basics.{ℕ, _+_, _≤_, max, arith, eq-eqb, _≡_, refl, sym, _∙_, List, [], _∷_, _++_, map, Bool, true, false, or-true, eqb, length, length-map}
 use Rattle.lists.proofs.Basics.{length-append}
 use Rattle.lists.specs.Lists.{any, every}
+use Rattle.lists.proofs.Tests.{split}
 use Rattle.lists.proofs.Any.{every-cons, every-append, every-weaken, every-map}
 use Rattle.records.specs.declared.Record.{Record}
 use Rattle.records.specs.declared.PduMode.{PduMode}
 use Rattle.records.specs.declared.Mode.{Mode}
 use Rattle.records.specs.declared.Notice.{Notice}
-use Rattle.records.specs.Wrote.{Room}
+use Rattle.records.specs.Wrote.{Room, Wrote}
+use Rattle.records.proofs.Laws.{wrote-none}
 use Rattle.settings.specs.declared.Transceiver.{Transceiver}
 use Rattle.settings.specs.declared.Transceiver.the-variants.{Absent, Present}
 use Rattle.settings.specs.declared.Network.{Network}
@@ -16,12 +18,12 @@ use Rattle.steps.specs.declared.Step.{Step}
 use Rattle.steps.specs.declared.Ask.{Ask}
 use Rattle.steps.specs.declared.Move.{Move}
 use Rattle.steps.specs.declared.Move.the-variants.{Stay, AskAgain, Count, EnterFull, EnterSilent, Pass, Wait, GoDown, EnterNoCommunication, Enter}
-use Rattle.steps.specs.Steps.{asksFor}
+use Rattle.steps.specs.Steps.{asksFor, isOnlineStep}
 use Rattle.steps.specs.After.{firstDown}
 use Rattle.handing.specs.declared.Round.{Round}
 use Rattle.handing.specs.declared.Errand.{Errand}
 use Rattle.handing.specs.Handing.{roundRecord, errandRecord, requests, entering, enteringFull, enteringSilent, downNotices, goingDown}
-use Rattle.handing.specs.Handing.{moveRecords, recovery, reset, targetsOf, ownRecord}
+use Rattle.handing.specs.Handing.{moveRecords, recovery, reset, online, onlineIn, targetsOf, ownRecord}
 
 -- ---- how many
 length-errand : (errand : Errand) (t : Transceiver) → length (map (errandRecord errand) (listed t)) ≤ 1
@@ -156,3 +158,25 @@ module _ (n : Network) where
   pub reset-own : every (ownRecord n) (reset (n .handle)) ≡ true
   unfolding reset ownRecord targetsOf any
   reset-own = handle-own _ _ refl none-own
+
+-- ---- listening
+module _ (n : Network) (step : Step) where
+  -- each record of it names the network's own ids
+  pub online-own : every (ownRecord n) (onlineIn n step) ≡ true
+  unfolding onlineIn
+  online-own = split (λ (rs : List Record). every (ownRecord n) rs ≡ true) (isOnlineStep step) (λ _. round-own n (Round.Pdu online)) (λ _. none-own n)
+
+  -- by the test that the code makes: room for it, and what is written
+  module _ (x : Bool) (e : x ≡ isOnlineStep step) where
+    pub online-room : {b : List ℕ} {k : ℕ} → x ≡ true → Room b k (onlineIn n step) → Room b k (map (roundRecord (Round.Pdu online)) (controllersOf n))
+    unfolding onlineIn
+    online-room t room = rw (sym e ∙ t) at room
+
+    pub online-wrote : {b b₁ : List ℕ} {k r : ℕ} → x ≡ true → Wrote b b₁ k r (map (roundRecord (Round.Pdu online)) (controllersOf n))
+        → Wrote b b₁ k r (onlineIn n step)
+    unfolding onlineIn
+    online-wrote t w = rw (sym e ∙ t) w
+
+    pub online-quiet : (b : List ℕ) (k : ℕ) → x ≡ false → Wrote b b k k (onlineIn n step)
+    unfolding onlineIn
+    online-quiet b k f = rw (sym e ∙ f) (wrote-none b k)

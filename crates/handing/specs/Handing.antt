@@ -1,5 +1,5 @@
--- What a move, a bus-off and a stall hand out, record by record: the rules S14, H5 to H12, N11, N12, T10, T11, T23 to T25, T27, T28, B3 and X2 of
--- docs/RULES.md.
+-- What a move, a bus-off, a stall and listening hand out, record by record: the rules S14, H5 to H12, N11, N12, T10, T11, T23 to T25, T27, T28, B3, X2
+-- and L3 of docs/RULES.md.
 use Prim.Native.Nat.{ℕ}
 use mathlib.Core.List.{List, [], _∷_, _++_, map}
 use mathlib.Core.Bool.{Bool, cond}
@@ -15,7 +15,7 @@ use Rattle.steps.specs.declared.Step.{Step}
 use Rattle.steps.specs.declared.Ask.{Ask}
 use Rattle.steps.specs.declared.Move.{Move}
 use Rattle.steps.specs.declared.Move.the-variants.{Stay, AskAgain, Count, EnterFull, EnterSilent, Pass, Wait, GoDown, EnterNoCommunication, Enter}
-use Rattle.steps.specs.Steps.{asksFor}
+use Rattle.steps.specs.Steps.{asksFor, isOnlineStep}
 use Rattle.steps.specs.Decision.{byMode}
 use Rattle.steps.specs.After.{firstDown}
 use Rattle.handing.specs.declared.Round.{Round}
@@ -93,6 +93,10 @@ recovery handle = reports handle EventStatus.Prefailed ∷ tells handle Mode.Sil
 -- X2: silent for the communication manager, and nothing else
 unfoldable pub reset : ℕ → List Record
 reset handle = tells handle Mode.Silent ∷ []
+
+-- L3: online for each controller of a network in step 4, 5, 15 or 16, and in any other step nothing
+unfoldable pub onlineIn : Network → Step → List Record
+onlineIn n step = cond (isOnlineStep step) (map (roundRecord (Round.Pdu online)) (controllersOf n)) []
 
 -- H5 to H12: what a record of a kind can name of a network: its controllers, its transceiver, or its handle
 unfoldable pub targetsOf : Network → ℕ → List ℕ

@@ -10,12 +10,15 @@ use settings::Network;
 use settings::Transceiver;
 use steps::Ask;
 use steps::Move;
+use steps::Phase;
 use steps::Step;
 ghost use mathlib.Core.Path.{_≡_};
 ghost use mathlib.Core.List.{map};
 ghost use Rattle.records.specs.Wrote.{Room, Wrote};
 ghost use Rattle.settings.specs.Settings.{controllersOf, listed};
 ghost use Rattle.handing.specs.Handing.{roundRecord, errandRecord, requests, entering, goingDown, downNotices, moveRecords, recovery, reset};
+ghost use Rattle.steps.specs.Steps.{onlinePhase};
+ghost use Rattle.handing.specs.Handing.{onlineIn};
 
 // A record for each controller of a network: a request, or its PDU mode.
 pub enum Round {
@@ -209,4 +212,32 @@ pub fn put_reset(out: &mut [u8], handle: u8) -> usize
 {
     let told = Record::tell(handle, Mode::Silent);
     records::put_record(out, 0, told)
+}
+
+// L3: steps 4, 5, 15 and 16.
+fn is_online(phase: Phase) -> bool
+    ensures { λ r. ⌜ r ≡ onlinePhase phase ⌝ }
+{
+    match phase {
+        Phase::Off => false,
+        Phase::Rising => false,
+        Phase::Checking => true,
+        Phase::Full => true,
+        Phase::Recovering => false,
+        Phase::Silent => false,
+        Phase::Falling => false,
+        Phase::Resetting => true,
+    }
+}
+
+// L3: online for each controller, in these steps.
+pub fn put_online(out: &mut [u8], k: usize, network: Network, step: Step) -> usize
+    requires { ⌜ Room (now out) k (onlineIn network step) ⌝ }
+    ensures { λ r. ⌜ Wrote (now (out .entry)) (now (out .exit)) k r (onlineIn network step) ⌝ }
+{
+    let phase = step.phase();
+    if is_online(phase) {
+        return put_round(out, k, network, Round::Pdu(PduMode::Online));
+    }
+    k
 }

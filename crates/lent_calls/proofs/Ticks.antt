@@ -1,14 +1,14 @@
--- Each network in sheet order: what the ticks hand out, and room for it;
--- the ways out of a call that is lent a buffer.
-use Rattle.lists.proofs.Basics.{ℕ, zero, suc, _+_, _*_, _≤_, _<_, min, arith, add-one, ltb-false, _≡_, refl, sym, ap, subst, _∙_, List, [], _∷_}
-use Rattle.lists.proofs.Basics.{_++_, append-nil, append-assoc, Bool, true, false, not, cond, ltb, length, getD, take, length-append}
+-- The tick of each network in sheet order; the ways out of a call that is lent a buffer.
+use Rattle.lists.proofs.Basics.{ℕ, _+_, _*_, _≤_, _<_, min, arith, ltb-false, _≡_, refl, sym, ap, subst, _∙_, List, []}
+use Rattle.lists.proofs.Basics.{Bool, true, false, not, cond, ltb, length, getD, take, drop, map, length-append}
 use Rattle.lists.proofs.Parts.{take-min}
 use Rattle.lists.proofs.Tests.{split}
 use Rattle.records.specs.declared.Record.{Record}
-use Rattle.records.specs.Records.{bytes}
-use Rattle.records.specs.Wrote.{Room, Wrote}
-use Rattle.records.proofs.Laws.{wrote-none, wrote-then, wrote-length, stored-front}
+use Rattle.records.specs.Records.{turned, bytes}
+use Rattle.records.specs.Wrote.{Room, Wrote, heeded}
+use Rattle.records.proofs.Laws.{length-bytes, wrote-none, stored-front, turned-none, heeded-front}
 use Rattle.settings.specs.declared.Network.{Network}
+use Rattle.settings.specs.declared.Id.{Id}
 use Rattle.steps.specs.declared.Step.{Step}
 use Rattle.steps.specs.Steps.{asksFor, isUp, isFullStep, asksToStart}
 use Rattle.handing.specs.Handing.{recovery, reset}
@@ -29,55 +29,17 @@ use Rattle.slots.specs.declared.Gate.{Gate}
 use Rattle.slots.specs.declared.Slot.{Slot}
 use Rattle.slots.specs.declared.Manager.{Manager}
 use Rattle.slots.specs.declared.Outcome.{Outcome}
-use Rattle.slots.specs.Manager.{networksOf, networkAt, stateAt, withStates, refused, accepted, each, allRecords, share, shares, tickNeeds}
-use Rattle.slots.specs.Calls.{Call, byStage, settled, slotOutcome, gateOf, byGate, gateRecords, troubleNeeds, allTicked, outcome, handedOut}
-use Rattle.slots.specs.Calls.{bufferWith, Gives, SlotGives}
+use Rattle.slots.specs.Manager.{networksOf, networkAt, stateAt, withStates, refused, accepted, each, gathered, share, summed, tickNeeds}
+use Rattle.slots.specs.Calls.{Call, byStage, slotOf, settled, named, slotOutcome, gateOf, byGate, gateRecords, troubleNeeds, allTicked, outcome, byRules}
+use Rattle.slots.specs.Calls.{slotRecords, handedOut, bufferWith, Gives, SlotGives}
 use Rattle.slots.proofs.Each.{each-read, each-same}
-
--- ---- what the ticks hand out
-records-none : (ss : List State) → allRecords [] ss ≡ []
-unfolding allRecords
-records-none ss = refl
-
-pub ticked-none : (b : List ℕ) (ss : List State) → Wrote b b 0 0 (allRecords [] ss)
-ticked-none b ss = rw (records-none ss) (wrote-none b 0)
-
-records-suc : (ns : List Network) (ss : List State) (i : ℕ) (d : Network) (e : State) → i < length ns → i < length ss →
-    allRecords (take (suc i) ns) ss ≡ allRecords (take i ns) ss ++ tickRecords (getD ns i d) (getD ss i e)
-unfolding allRecords
-records-suc [] ss i d e h k = absurd (omega arith)
-records-suc (n ∷ ns) [] i d e h k = absurd (omega arith)
-records-suc (n ∷ ns) (s ∷ ss) zero d e h k = append-nil (tickRecords n s)
-records-suc (n ∷ ns) (s ∷ ss) (suc i) d e h k =
-    ap (λ (r : List Record). tickRecords n s ++ r) (records-suc ns ss i d e (omega arith) (omega arith))
-    ∙ sym (append-assoc (tickRecords n s) (allRecords (take i ns) ss) (tickRecords (getD ns i d) (getD ss i e)))
-
-pub records-more : (ns : List Network) (ss : List State) (i : ℕ) (d : Network) (e : State) → i < length ns → i < length ss →
-    allRecords (take (i + 1) ns) ss ≡ allRecords (take i ns) ss ++ tickRecords (getD ns i d) (getD ss i e)
-records-more ns ss i d e h k = rw add-one (records-suc ns ss i d e h k)
+use Rattle.lent_calls.proofs.Gathered.{gathered-summed, gather-room, gather-wrote}
 
 -- ---- how many a tick hands out at most
--- a tick hands out no more than a network's share, of any network
+-- no more than a network's share, of any network
 pub tick-share : (n : Network) (s : State) → length (tickRecords n s) ≤ share n
 unfolding tickRecords
 tick-share n s = length-move n (s .step) (s .told) (moveOf n s)
-
--- the ticks of all hand out no more than the shares of all
-pub records-shares : (ns : List Network) (ss : List State) → length (allRecords ns ss) ≤ shares ns
-unfolding allRecords shares
-records-shares [] ss = omega arith
-records-shares (n ∷ ns) [] = omega arith
-records-shares (n ∷ ns) (s ∷ ss) = omega (arith, length-append (tickRecords n s) (allRecords ns ss), tick-share n s, records-shares ns ss)
-
--- ---- the shares
--- the shares of the first n are no fewer than those of fewer and of the next
-pub shares-within : (ns : List Network) (i n : ℕ) (d : Network) →
-    i < length ns → i < n → shares (take i ns) + share (getD ns i d) ≤ shares (take n ns)
-unfolding shares
-shares-within [] i n d h k = absurd (omega arith)
-shares-within (m ∷ ns) i zero d h k = absurd (omega arith)
-shares-within (m ∷ ns) zero (suc n) d h k = omega arith
-shares-within (m ∷ ns) (suc i) (suc n) d h k = omega (arith, shares-within ns i n d (omega arith) (omega arith))
 
 -- ---- one turn of the loop over the networks
 -- the test for a network that does not rest has failed
@@ -86,34 +48,23 @@ rests-so false p q = absurd (let z : _≡_ {A = ℕ} 0 1 = cc in omega arith)
 rests-so true p q = sym p
 
 module _ (ns : List Network) (ss now : List State) (i : ℕ) (d : Network) (e : State) (h : i < length ns)
-    (k : i < length ss) (q : now ≡ each tickState (take i ns) ss) {b b₁ : List ℕ} {r : ℕ} (w : Wrote b b₁ 0 r (allRecords (take i ns) ss)) where
+    (k : i < length ss) (q : now ≡ each tickState (take i ns) ss) {b b₁ : List ℕ} {r : ℕ} (w : Wrote b b₁ 0 r (gathered tickRecords (take i ns) ss)) where
   still : getD now i e ≡ getD ss i e
   still = ap (λ (l : List State). getD l i e) q ∙ each-read tickState ns ss i e
 
-  pub tick-room : (n : ℕ) → i < n → 3 * shares (take n ns) ≤ length b → Room b₁ r (tickRecords (getD ns i d) (getD now i e))
-  tick-room n g room =
-      record {
-        fits = omega (
-          arith,
-          room,
-          w .count,
-          wrote-length w,
-          records-shares (take i ns) ss,
-          shares-within ns i n d h g,
-          tick-share (getD ns i d) (getD now i e),
-        );
-      }
+  pub tick-room : (n : ℕ) → i < n → 3 * summed share (take n ns) ≤ length b → Room b₁ r (tickRecords (getD ns i d) (getD now i e))
+  tick-room n g room = gather-room tickRecords share tick-share ns ss i d h w (tickRecords (getD ns i d) (getD now i e)) (tick-share _ _) n g room
 
   pub tick-wrote : {b₂ : List ℕ} {s : ℕ} →
-      Wrote b₁ b₂ r s (tickRecords (getD ns i d) (getD now i e)) → Wrote b b₂ 0 s (allRecords (take (i + 1) ns) ss)
-  tick-wrote v = rw (records-more ns ss i d e h k) (wrote-then w (rw still at v))
+      Wrote b₁ b₂ r s (tickRecords (getD ns i d) (getD now i e)) → Wrote b b₂ 0 s (gathered tickRecords (take (i + 1) ns) ss)
+  tick-wrote v = gather-wrote tickRecords ns ss i d e h k w (rw still at v)
 
   -- the network rests: its record is the one after a tick, and nothing is handed out
   module _ (o : restsIn (getD now i e .step) (getD now i e .wanted) ≡ true) where
     pub rest-kept : now ≡ each tickState (take (i + 1) ns) ss
     rest-kept = each-same tickState ns ss now i d e h k q (resting-stays (getD ns i d) (getD now i e) o)
 
-    pub rest-wrote : Wrote b b₁ 0 r (allRecords (take (i + 1) ns) ss)
+    pub rest-wrote : Wrote b b₁ 0 r (gathered tickRecords (take (i + 1) ns) ss)
     rest-wrote = tick-wrote (rw (resting-hands-out-nothing (getD ns i d) (getD now i e) o) (wrote-none b₁ r))
 
 -- ---- the outcome
@@ -124,17 +75,46 @@ unfolding bufferWith
 wrote-front {b} rs w h = (omega (arith, w .count), w .buffer ∙ stored-front b rs h)
 
 pub ticks-end : (m : Manager) {b b₁ : List ℕ} {k : ℕ} (now : List State) (i : ℕ) → i ≡ min (m .count) (length (m .networks)) → tickNeeds
-    m ≤ length b → now ≡ each tickState (take i (m .networks)) (m .states) → Wrote b b₁ 0 k (allRecords (take i (m .networks)) (m .states)) →
-    (accepted (withStates m Stage.Started now) k ≡ allTicked m) × (b₁ ≡ bufferWith b (allRecords (networksOf m) (m .states)))
+    m ≤ length b → now ≡ each tickState (take i (m .networks)) (m .states) → Wrote b b₁ 0 k (gathered tickRecords (take i (m .networks)) (m .states)) →
+    (accepted (withStates m (m .listening) now) k ≡ allTicked m) × (b₁ ≡ bufferWith b (gathered tickRecords (networksOf m) (m .states)))
 unfolding tickNeeds allTicked
 ticks-end m {b} {b₁} {k} now i e room q w =
     let t = take-min (m .networks) (m .count) i e in
-    let rs = allRecords (networksOf m) (m .states) in
+    let rs = gathered tickRecords (networksOf m) (m .states) in
     let v : Wrote b b₁ 0 k rs = rw t at w in
-    let few : 3 * length rs ≤ length b = omega (arith, room, records-shares (networksOf m) (m .states)) in
+    let few : 3 * length rs ≤ length b = omega (arith, room, gathered-summed tickRecords share tick-share (networksOf m) (m .states)) in
     let g = wrote-front rs v few in
     let p : now ≡ each tickState (networksOf m) (m .states) = rw t at q in
     (rw (p, g .0), g .1)
+
+-- the records as they go out
+pub heeded-with : (b : List ℕ) (rs : List Record) (listening : Bool) → 3 * length rs ≤ length b
+    → heeded (bufferWith b rs) (length rs) listening ≡ bufferWith b (map (turned listening) rs)
+unfolding bufferWith
+heeded-with b rs listening h = heeded-front b rs listening h
+
+-- what the ticks of all networks hand out has room, and goes out
+module _ (m : Manager) (b : List ℕ) {b₁ : List ℕ} (o : Outcome) (p : o ≡ allTicked m) (q : b₁ ≡ bufferWith b (gathered tickRecords (networksOf m) (m .states)))
+    (room : tickNeeds m ≤ length b) where
+  made-fits : 3 * length (gathered tickRecords (networksOf m) (m .states)) ≤ length b
+  unfolding tickNeeds
+  made-fits = omega (arith, room, gathered-summed tickRecords share tick-share (networksOf m) (m .states))
+
+  counts-made : o .count ≡ length (gathered tickRecords (networksOf m) (m .states))
+  unfolding allTicked
+  counts-made = ap (λ (x : Outcome). x .count) p
+
+  pub ticks-fit : 3 * o .count ≤ length b₁
+  unfolding bufferWith
+  ticks-fit =
+      let made = gathered tickRecords (networksOf m) (m .states) in
+      omega (arith, counts-made, ap length q, length-append (bytes made) (drop (3 * length made) b), length-bytes made)
+
+  pub ticks-heeded : {b₂ : List ℕ} → b₂ ≡ heeded b₁ (o .count) (m .listening) → b₂ ≡ bufferWith b (map (turned (m .listening)) (gathered tickRecords (networksOf m) (m .states)))
+  ticks-heeded e =
+      let made = gathered tickRecords (networksOf m) (m .states) in
+      e ∙ ap (λ (l : List ℕ). heeded l (o .count) (m .listening)) q
+      ∙ ap (λ (k : ℕ). heeded (bufferWith b made) k (m .listening)) counts-made ∙ heeded-with b made (m .listening) made-fits
 
 -- ---- a call that is lent a buffer
 -- what it gives is a pair: the outcome, and the buffer with the records
@@ -146,24 +126,31 @@ pub refused-ends : (m : Manager) (b : List ℕ) (answer : Answer) (r : Outcome) 
 unfolding bufferWith bytes
 refused-ends m b answer r e = (e, refl)
 
--- by its gate
+-- by its gate: what the rules of the networks make on it, and what goes out
 pub gate-shut : (m : Manager) (c : Call) (b : List ℕ) (o r : Outcome) (rs : List Record) (gate x : Gate) (answer : Answer) →
-    x ≡ gate → x ≡ Gate.Refused answer → r ≡ refused m answer → outcome m c ≡ byGate m gate o → handedOut m c ≡ gateRecords gate rs → Gives m c b r b
+    x ≡ gate → x ≡ Gate.Refused answer → r ≡ refused m answer → outcome m c ≡ byGate m gate o → byRules m c ≡ gateRecords gate rs → Gives m c b r b
+unfolding handedOut
 gate-shut m c b o r rs gate x answer p e f po ph =
     let g : gate ≡ Gate.Refused answer = sym p ∙ e in
     let t = refused-ends m b answer r f in
     record {
       result = t .0 ∙ sym (po ∙ ap (λ (y : Gate). byGate m y o) g);
-      buffer = t .1 ∙ sym (ap (bufferWith b) (ph ∙ ap (λ (y : Gate). gateRecords y rs) g));
+      buffer = t .1 ∙ sym (ap (λ (l : List Record). bufferWith b (map (turned (outcome m c .manager .listening)) l))
+          (ph ∙ ap (λ (y : Gate). gateRecords y rs) g));
     }
 
 pub gate-open : (m : Manager) (c : Call) (b after : List ℕ) (o r : Outcome) (rs : List Record) (gate x : Gate) → x ≡ gate → x ≡ Gate.Open
-    → r ≡ o → after ≡ bufferWith b rs → outcome m c ≡ byGate m gate o → handedOut m c ≡ gateRecords gate rs → Gives m c b r after
+    → r ≡ o → after ≡ bufferWith b (map (turned (o .manager .listening)) rs) → outcome m c ≡ byGate m gate o → byRules m c ≡ gateRecords gate rs
+    → Gives m c b r after
+unfolding handedOut
 gate-open m c b after o r rs gate x p e f h po ph =
     let g : gate ≡ Gate.Open = sym p ∙ e in
+    let same : outcome m c ≡ o = po ∙ ap (λ (y : Gate). byGate m y o) g in
+    let made : byRules m c ≡ rs = ph ∙ ap (λ (y : Gate). gateRecords y rs) g in
     record {
-      result = f ∙ sym (po ∙ ap (λ (y : Gate). byGate m y o) g);
-      buffer = h ∙ sym (ap (bufferWith b) (ph ∙ ap (λ (y : Gate). gateRecords y rs) g));
+      result = f ∙ sym same;
+      buffer = h ∙ sym (ap (λ (l : List Record). bufferWith b (map (turned (outcome m c .manager .listening)) l)) made
+          ∙ ap (λ (q : Outcome). bufferWith b (map (turned (q .manager .listening)) rs)) same);
     }
 
 -- by the slot that its id names
@@ -204,6 +191,15 @@ pub hit-room : (n : Network) (s : State) (trouble : Trouble) (b : List ℕ) → 
     → Room b 0 (hitRecords n (hitBy trouble (s .step)))
 hit-room n s trouble b h = record { fits = omega (arith, h, hit-fits n trouble (s .step)) }
 
+-- none of them is online, so that they go out as they are, whether the manager listens or not
+hit-turned : (listening : Bool) (n : Network) (hit : Hit) → map (turned listening) (hitRecords n hit) ≡ hitRecords n hit
+unfolding hitRecords recovery reset turned
+hit-turned false n hit = turned-none (hitRecords n hit)
+hit-turned true n Hit.Recover = refl
+hit-turned true n Hit.Restart = refl
+hit-turned true n Hit.Reset = refl
+hit-turned true n Hit.NotTaken = refl
+
 -- the network's part of it, and its records
 pub trouble-part : (n : Network) (s : State) (trouble : Trouble) → hitPart s (hitBy trouble (s .step)) ≡ partOf n s (sightOf trouble)
 unfolding partOf
@@ -214,6 +210,23 @@ pub trouble-records : (n : Network) (s : State) (trouble : Trouble) → hitRecor
 unfolding recordsOf
 trouble-records n s Trouble.BusOff = refl
 trouble-records n s Trouble.Stall = refl
+
+-- what goes out on it is what the slot hands out
+struck-turned : (listening : Bool) (m : Manager) (slot : Slot) (trouble : Trouble)
+    → slotRecords m slot (sightOf trouble) ≡ map (turned listening) (slotRecords m slot (sightOf trouble))
+struck-turned listening m (Slot.Refused answer) trouble = refl
+struck-turned listening m (Slot.At i) trouble =
+    subst (λ (rs : List Record). rs ≡ map (turned listening) rs) (trouble-records (networkAt m i) (stateAt m i) trouble)
+    (sym (hit-turned listening (networkAt m i) (hitBy trouble (stateAt m i .step))))
+
+-- the call by which it is reported goes on
+pub trouble-open : (m : Manager) (c : Call) (b after : List ℕ) (r : Outcome) (trouble : Trouble) (id : Id) (gate x : Gate) → x ≡ gate → x ≡ Gate.Open
+    → SlotGives m (slotOf m id) (sightOf trouble) b r after → outcome m c ≡ byGate m gate (named m id (sightOf trouble))
+    → byRules m c ≡ gateRecords gate (slotRecords m (slotOf m id) (sightOf trouble)) → Gives m c b r after
+unfolding named
+trouble-open m c b after r trouble id gate x p e g po pr =
+    gate-open m c b after (named m id (sightOf trouble)) r (slotRecords m (slotOf m id) (sightOf trouble)) gate x p e (g .result)
+    (g .buffer ∙ ap (bufferWith b) (struck-turned _ m (slotOf m id) trouble)) po pr
 
 -- what the network made of it, as the outcome of its slot
 pub slot-struck : (m : Manager) (i : ℕ) (n : Network) (s : State) (trouble : Trouble) (part : Part) (r : Outcome) {b b₁ : List ℕ} {k : ℕ}

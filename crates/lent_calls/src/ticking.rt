@@ -10,15 +10,19 @@ use slots::tick_needs;
 ghost use mathlib.Core.Path.{_≡_};
 ghost use Prim.Native.Nat.{_≤_};
 ghost use lib.ListN.{length};
-ghost use Rattle.slots.specs.Manager.{networksOf, tickNeeds, allRecords};
+ghost use mathlib.Core.List.{map};
+ghost use Rattle.records.specs.Records.{turned};
+ghost use Rattle.network.specs.Moving.{tickRecords};
+ghost use Rattle.slots.specs.Manager.{networksOf, tickNeeds, gathered};
 ghost use Rattle.slots.specs.Calls as calls;
 
 // T1, H2: every network ticks, in the order of the sheet. One that rests stays as it is.
 fn tick_networks(manager: Manager, out: &mut [u8]) -> Outcome
     requires { ⌜ tickNeeds manager ≤ length (now out) ⌝ }
     ensures { λ r. ⌜ (r ≡ calls.allTicked manager)
-        × (now (out .exit) ≡ calls.bufferWith (now (out .entry)) (allRecords (networksOf manager) (manager .states))) ⌝ }
+        × (now (out .exit) ≡ calls.bufferWith (now (out .entry)) (gathered tickRecords (networksOf manager) (manager .states))) ⌝ }
 {
+    let listening = manager.listening;
     let count = manager.count;
     let networks = manager.networks;
     let mut states = manager.states;
@@ -40,6 +44,7 @@ fn tick_networks(manager: Manager, out: &mut [u8]) -> Outcome
         answer: Answer::Accepted,
         manager: Manager {
             stage: Stage::Started,
+            listening,
             count,
             networks,
             states,
@@ -50,12 +55,24 @@ fn tick_networks(manager: Manager, out: &mut [u8]) -> Outcome
     }
 }
 
+// L2: what the networks hand out goes out as it does where the manager listens, or does not.
+fn tick_started(manager: Manager, out: &mut [u8]) -> Outcome
+    requires { ⌜ tickNeeds manager ≤ length (now out) ⌝ }
+    ensures { λ r. ⌜ (r ≡ calls.allTicked manager)
+        × (now (out .exit)
+        ≡ calls.bufferWith (now (out .entry)) (map (turned (manager .listening)) (gathered tickRecords (networksOf manager) (manager .states)))) ⌝ }
+{
+    let outcome = tick_networks(manager, out);
+    records::heed(out, outcome.count, manager.listening);
+    outcome
+}
+
 // R7, R9, R16: a tick of the manager, where it is started and the lent buffer has the room.
 pub fn tick(manager: Manager, out: &mut [u8]) -> Outcome
     ensures { λ r. ⌜ calls.Gives manager (calls.tick (length (now (out .entry)))) (now (out .entry)) r (now (out .exit)) ⌝ }
 {
     match gate_of(manager, out.len(), tick_needs(manager)) {
         Gate::Refused(answer) => Outcome::refuse(manager, answer),
-        Gate::Open => tick_networks(manager, out),
+        Gate::Open => tick_started(manager, out),
     }
 }

@@ -2,6 +2,7 @@
 pub use lent_calls::bus_off;
 pub use lent_calls::stall;
 pub use lent_calls::tick;
+pub use listen_calls::listen;
 pub use quiet_calls::check_done;
 pub use quiet_calls::clear_done;
 pub use quiet_calls::controller_answer;

@@ -31,6 +31,8 @@ const POLL: u8 = 0x0b;
 
 const STALL: u8 = 0x0c;
 
+const LISTEN: u8 = 0x0d;
+
 // The bytes of a call without arguments, and with one, two and three of a byte each.
 const ALONE: usize = 1;
 
@@ -115,6 +117,9 @@ fn call_length(call: &[u8]) -> usize {
     if code == WRITE || code == REQUEST || code == BUS_OFF || code == TRANSCEIVER || code == STALL {
         return WITH_TWO;
     }
+    if code == LISTEN {
+        return WITH_TWO;
+    }
     if code == ANSWER {
         return WITH_THREE;
     }
@@ -169,6 +174,13 @@ fn stall_part(manager: Manager, handle: u8, buffer: &mut [u8], length: usize) ->
     manager::stall(manager, handle, &mut buffer[..length])
 }
 
+fn listen_part(manager: Manager, value: u8, buffer: &mut [u8], length: usize) -> Outcome {
+    if buffer.len() < length {
+        return manager::listen(manager, value, buffer);
+    }
+    manager::listen(manager, value, &mut buffer[..length])
+}
+
 fn tick_part(manager: Manager, buffer: &mut [u8], length: usize) -> Outcome {
     if buffer.len() < length {
         return manager::tick(manager, buffer);
@@ -219,6 +231,18 @@ fn run_stall(number: u64, manager: Manager, handle: u8, length: u8) -> Manager {
     tell_lent(
         number,
         b"stall",
+        outcome,
+        &buffer,
+        shown_of_records(outcome.count),
+    )
+}
+
+fn run_listen(number: u64, manager: Manager, value: u8, length: u8) -> Manager {
+    let mut buffer = filled_for_records();
+    let outcome = listen_part(manager, value, &mut buffer, length as usize);
+    tell_lent(
+        number,
+        b"listen",
         outcome,
         &buffer,
         shown_of_records(outcome.count),
@@ -297,6 +321,9 @@ fn run_call(number: u64, manager: Manager, call: &[u8]) -> Manager {
     }
     if code == STALL {
         return run_stall(number, manager, first, byte_at(call, 2));
+    }
+    if code == LISTEN {
+        return run_listen(number, manager, first, byte_at(call, 2));
     }
     run_below(number, manager, call)
 }

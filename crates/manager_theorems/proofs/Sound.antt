@@ -18,8 +18,8 @@ use Rattle.network_theorems.proofs.Parts.{part-kept}
 use Rattle.slots.specs.declared.Stage.{Stage}
 use Rattle.slots.specs.declared.Manager.{Manager}
 use Rattle.slots.specs.declared.Outcome.{Outcome}
-use Rattle.slots.specs.Manager.{networksOf, settingsOf, blankState, networkAt, stateAt, withState, withStates, each, tickNeeds}
-use Rattle.slots.specs.Calls.{Call, tick, newManager, afterReading, gateOf, allTicked, outcome}
+use Rattle.slots.specs.Manager.{networksOf, settingsOf, blankState, networkAt, stateAt, withState, withStates, withListening, each, tickNeeds}
+use Rattle.slots.specs.Calls.{Call, tick, newManager, afterReading, gateOf, allTicked, listened, outcome}
 use Rattle.slots.proofs.Each.{length-each}
 use Rattle.calls.specs.Histories.{ReadsBytes, Reached, at-new, after}
 use Rattle.calls.proofs.ByCall.{slot-network, ByCall, by-call}
@@ -107,10 +107,10 @@ module _ (m : Manager) (s : Sound m) where
           subst (Kept (networkAt m j)) (sym (getD-set-other (m .states) i j t blankState (eqb-false j i q))) (s .kept e j h)
 
   -- every record in use is f of its network and its old record
-  each-sound : (f : Network → State → State) → (m .stage ≡ Stage.Empty → ⊥)
+  each-sound : (f : Network → State → State) (listening : Bool) → (m .stage ≡ Stage.Empty → ⊥)
       → ((i : ℕ) → i < length (networksOf m) → Kept (networkAt m i) (f (networkAt m i) (stateAt m i)))
-      → Sound (withStates m Stage.Started (each f (networksOf m) (m .states)))
-  each-sound f loaded p = record {
+      → Sound (withStates m listening (each f (networksOf m) (m .states)))
+  each-sound f listening loaded p = record {
     networks = s .networks;
     states = length-each f (networksOf m) (m .states) ∙ s .states;
     in-range = s .in-range;
@@ -131,32 +131,39 @@ module _ (m : Manager) (s : Sound m) where
         kept = λ f. absurd (let z : _≡_ {A = ℕ} 0 1 = cc in omega arith);
       }
 
+  -- whether the manager listens is no part of it
+  listening-sound : (listening : Bool) → Sound (withListening m listening)
+  listening-sound listening =
+      record { networks = s .networks; states = s .states; in-range = s .in-range; good = s .good; kept = s .kept }
+
   -- every call keeps it
   pub call-sound : (c : Call) → ReadsBytes m c → Sound (outcome m c .manager)
-  unfolding allTicked
+  unfolding allTicked listened
   call-sound = by-call m (λ c o rs. ReadsBytes m c → Sound (o .manager)) (record {
     refuses = λ c a r f w. s;
     declines = λ c id sight i a n f d r w. s;
     takes = λ c id sight i n f t k w. stored-sound i _ (f .used)
         (part-kept (networkAt m i) (stateAt m i) (slot-in-range m s i (f .used)) (s .kept (f .started) i (f .used)) sight);
-    ticks = λ room e k w. each-sound tickState (λ f. let z : _≡_ {A = ℕ} 0 1 = cc in omega arith)
+    ticks = λ room e k w. each-sound tickState (m .listening) (λ f. let z : _≡_ {A = ℕ} 0 1 = cc in omega arith)
         (λ i h. tick-kept (networkAt m i) (stateAt m i) (s .kept e i h));
+    listens = λ value room e k a w. listening-sound (eqb 1 value);
     polls = λ handle i f w. s;
     reads = λ bytes f e w. read-sound bytes (w bytes refl f) e;
     misreads = λ bytes fault f w. s;
     writes = λ room f w. s;
-    starts = λ e w. each-sound (λ n t. started n) (λ f. let z : _≡_ {A = ℕ} 0 1 = cc in omega arith) (λ i h. start-kept (networkAt m i));
+    starts = λ e w. each-sound (λ n t. started n) false (λ f. let z : _≡_ {A = ℕ} 0 1 = cc in omega arith) (λ i h. start-kept (networkAt m i));
   })
 
   -- once started, a manager stays so and keeps its settings
   pub call-settled : m .stage ≡ Stage.Started →
       (c : Call) → (outcome m c .manager .stage ≡ Stage.Started) × (settingsOf (outcome m c .manager) ≡ settingsOf m)
-  unfolding allTicked
+  unfolding allTicked listened
   call-settled e = by-call m (λ c o rs. (o .manager .stage ≡ Stage.Started) × (settingsOf (o .manager) ≡ settingsOf m)) (record {
     refuses = λ c a r f. (e, refl);
     declines = λ c id sight i a n f d r. (e, refl);
     takes = λ c id sight i n f t k. (e, refl);
     ticks = λ room g k. (refl, refl);
+    listens = λ value room g k a. (e, refl);
     polls = λ handle i f. (e, refl);
     reads = λ bytes f a. absurd (f e);
     misreads = λ bytes fault f. (e, refl);

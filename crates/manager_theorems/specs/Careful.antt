@@ -1,20 +1,19 @@
 -- What every call keeps: a refusal changes nothing, a call that names an id leaves the other networks alone, and what holds of every manager from
--- `new` on. The rules R2, R3 and N16 of docs/RULES.md.
-use Prim.Native.Nat.{ℕ, _<_, _+_}
+-- `new` on. The rules R2, R3, N16, L4 and L5 of docs/RULES.md.
+use Prim.Native.Nat.{ℕ, _<_}
 use mathlib.Core.Path.{_≡_}
-use mathlib.Core.List.{List, [], _∷_}
+use mathlib.Core.List.{List, []}
 use mathlib.Core.Bool.{false}
 use lib.ListN.{length}
 use Rattle.records.specs.declared.Record.{Record}
 use Rattle.settings.specs.declared.Network.{Network}
-use Rattle.settings.specs.Settings.{controllersOf}
 use Rattle.settings.specs.Good.{EachInRange, Good}
 use Rattle.network_theorems.specs.Kept.{Kept}
 use Rattle.slots.specs.declared.Stage.{Stage}
 use Rattle.slots.specs.declared.Slot.{Slot}
 use Rattle.slots.specs.declared.Manager.{Manager}
 use Rattle.slots.specs.declared.Outcome.{Outcome}
-use Rattle.slots.specs.Manager.{networksOf, settingsOf, networkAt, stateAt}
+use Rattle.slots.specs.Manager.{networksOf, settingsOf, networkAt, stateAt, summed, controllerCount}
 use Rattle.calls.specs.Histories.{isAccepted}
 
 -- R2, R3: the manager is as it was, the count and the polled mode are 0, and nothing is handed out
@@ -35,9 +34,14 @@ pub record LeavesOthers (m : Manager) (slot : Slot) (o : Outcome) : Type 0 where
   pub others : (j : ℕ) → (slot ≡ Slot.At j → ⊥) → stateAt (o .manager) j ≡ stateAt m j
 
 -- all controllers of all networks
-unfoldable pub allControllers : List Network → ℕ
-allControllers [] = 0
-allControllers (n ∷ ns) = length (controllersOf n) + allControllers ns
+abbrev pub allControllers : List Network → ℕ
+allControllers ns = summed controllerCount ns
+
+-- L4: the stage, the settings and the record of every network stay: of the manager nothing changes but whether it listens
+pub record OnlyListens (m : Manager) (o : Outcome) : Type 0 where
+  pub stage : o .manager .stage ≡ m .stage
+  pub settings : settingsOf (o .manager) ≡ settingsOf m
+  pub states : o .manager .states ≡ m .states
 
 -- what holds of a manager from `new` on: its arrays have eight slots, its networks are in range, once it has a sheet its settings are good, and once
 -- started each record is kept

@@ -28,3 +28,4 @@ pub mod Countdown
 pub mod Third
 pub mod NeverStuck
 pub mod Climbing
+pub mod Online

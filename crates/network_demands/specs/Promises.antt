@@ -144,7 +144,7 @@ pub record AsksToStart (n : Network) (c : ℕ) (e : Seen) (h : OwnHistory) : Typ
   pub prepared : askedToStart c (since (shut n) h) ≡ false → Prepared n h
   pub stopped : afterStall n h ≡ true → askedToStart c (since (setback n) h) ≡ false → Stopped n h
 
--- H5 to H12: the highest argument that a record of a kind has
+-- H5 to H12: the highest argument that a record of a kind has, with listening taken out
 abbrev pub highest : ℕ → ℕ
 highest kind = getD (0 ∷ 2 ∷ 1 ∷ 1 ∷ 0 ∷ 0 ∷ 2 ∷ 3 ∷ 1 ∷ []) kind 0
 

@@ -1,7 +1,7 @@
--- The records that are handed out, and their bytes: the rules H1, H2 and H5 to H12 of docs/RULES.md.
+-- The records that are handed out, and their bytes: the rules H1, H2, H5 to H12 and L2 of docs/RULES.md.
 use Prim.Native.Nat.{ℕ, zero, suc}
 use mathlib.Core.List.{List, [], _∷_}
-use mathlib.Core.Bool.{cond}
+use mathlib.Core.Bool.{Bool, _&&_, cond}
 use lib.Dec.{eqb}
 use lib.ListN.{getD, drop}
 use Rattle.records.specs.declared.Record.{Record}
@@ -75,6 +75,10 @@ transceiverMode id mode = handed 2 id (transceiverNumber mode)
 abbrev pub pduMode : ℕ → PduMode → Record
 pduMode id mode = handed 3 id (pduNumber mode)
 
+-- H7, L2: kind 3 with argument 2, by which the controller with this id receives and does not send
+abbrev pub listens : ℕ → Record
+listens id = handed 3 id 2
+
 -- H8: kind 4, the wake flag of the transceiver with this id is to be cleared
 abbrev pub clearWake : ℕ → Record
 clearWake id = handed 4 id 0
@@ -94,6 +98,15 @@ notes handle notice = handed 7 handle (noticeNumber notice)
 -- H12: kind 8, the event manager is told: passed is the all-clear, prefailed comes with a bus-off while up
 abbrev pub reports : ℕ → EventStatus → Record
 reports handle status = handed 8 handle (statusNumber status)
+
+-- ---- records as they go out
+-- H7: kind 3 online, whichever controller it is for
+abbrev pub isOnline : Record → Bool
+isOnline r = eqb 3 (r .kind) && eqb 0 (r .argument)
+
+-- L2: online goes out with argument 2 where the manager listens; every other record goes out as it is
+unfoldable pub turned : Bool → Record → Record
+turned listening r = cond (listening && isOnline r) (listens (r .target)) r
 
 -- ---- records as bytes
 -- H1: the bytes of records, three for each

@@ -1,9 +1,12 @@
 // The records handed out: three bytes each, kind, target and argument, from the front of a lent buffer.
+ghost use Prim.Native.Nat.{_*_, _≤_};
 ghost use mathlib.Core.Path.{_≡_};
 ghost use mathlib.Core.List.{[], _∷_};
+ghost use mathlib.Core.Bool.{true};
+ghost use lib.ListN.{length};
 ghost use Rattle.records.specs.Records.{controllerNumber, transceiverNumber, pduNumber, modeNumber, modeNamed, noticeNumber, statusNumber};
-ghost use Rattle.records.specs.Records.{controllerMode, transceiverMode, pduMode, clearWake, checkWake, tells, notes, reports};
-ghost use Rattle.records.specs.Wrote.{Room, Wrote};
+ghost use Rattle.records.specs.Records.{controllerMode, transceiverMode, pduMode, clearWake, checkWake, tells, notes, reports, turned};
+ghost use Rattle.records.specs.Wrote.{Room, Wrote, heeded};
 
 // H1: a record handed out.
 pub struct Record {
@@ -72,6 +75,8 @@ impl PduMode {
     pub const ONLINE: u8 = 0;
 
     pub const TX_OFFLINE: u8 = 1;
+    // L2: what online goes out as where the manager listens. No rule of a network asks for it.
+    pub const TX_OFFLINE_ACTIVE: u8 = 2;
 
     pub fn number(self) -> u8
         ensures { λ r. ⌜ r ≡ pduNumber self ⌝ }
@@ -280,6 +285,22 @@ impl Record {
             argument: status.number(),
         }
     }
+
+    // L2: the record as it goes out where the manager listens.
+    fn turn(self) -> Record
+        ensures { λ r. ⌜ r ≡ turned true self ⌝ }
+    {
+        if self.kind == Record::PDU_MODE {
+            if self.argument == PduMode::ONLINE {
+                return Record {
+                    kind: Record::PDU_MODE,
+                    target: self.target,
+                    argument: PduMode::TX_OFFLINE_ACTIVE,
+                };
+            }
+        }
+        self
+    }
 }
 
 // H1, H2: record number k of the lent buffer is now this one; the answer is the number of the next.
@@ -292,4 +313,23 @@ pub fn put_record(out: &mut [u8], k: usize, handed: Record) -> usize
     out[at + 1] = handed.target;
     out[at + 2] = handed.argument;
     k + 1
+}
+
+// L2: the first records of the lent buffer go out as they do where the manager listens, or does not.
+pub fn heed(out: &mut [u8], count: usize, listening: bool)
+    requires { ⌜ 3 * count ≤ length (now out) ⌝ }
+    ensures { λ r. ⌜ now (out .exit) ≡ heeded (now (out .entry)) count listening ⌝ }
+{
+    if listening {
+        let mut k: usize = 0;
+        while k < count {
+            let at = Record::SIZE * k;
+            let handed = Record {
+                kind: out[at],
+                target: out[at + 1],
+                argument: out[at + 2],
+            };
+            k = put_record(out, k, handed.turn());
+        }
+    }
 }

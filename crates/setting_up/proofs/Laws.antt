@@ -3,10 +3,11 @@ use Rattle.lists.proofs.Basics.{ℕ, _≡_, refl, List, Bool, true, false, cond
 use Rattle.sheet.specs.declared.Written.{Written}
 use Rattle.sheet.specs.Encode.{encode}
 use Rattle.sheet.specs.Writing.{written}
+use Rattle.slots.specs.declared.Stage.{Stage}
 use Rattle.slots.specs.declared.Answer.{Answer}
 use Rattle.slots.specs.declared.Manager.{Manager}
 use Rattle.slots.specs.Manager.{settingsOf, refused, accepted}
-use Rattle.slots.specs.Calls.{afterWriting, writingOf}
+use Rattle.slots.specs.Calls.{start, startedFrom, afterWriting, writingOf, outcome}
 
 -- the writer's answer, by the room that it has
 pub written-in-room : (m : Manager) (b : List ℕ) → afterWriting m (written (settingsOf m) b) ≡ writingOf m (length b)
@@ -17,3 +18,8 @@ written-in-room m b = by-room (leb (length (encode (settingsOf m))) (length b))
         ≡ cond fits (accepted m (length (encode (settingsOf m)))) (refused m Answer.TooShort)
     by-room true = refl
     by-room false = refl
+
+-- a start of a manager that has a sheet and was not started
+pub start-loaded : (m : Manager) → m .stage ≡ Stage.Loaded → outcome m start ≡ accepted (startedFrom m) 0
+unfolding outcome
+start-loaded m e = rw e refl

@@ -21,20 +21,22 @@ pub fn new() -> Manager
     let state = slots::blank_state();
     Manager {
         stage: Stage::Empty,
+        listening: false,
         count: 0,
         networks: [network; Settings::MOST_NETWORKS],
         states: [state; Settings::MOST_NETWORKS],
     }
 }
 
-// R19: a manager with these settings, whatever it had before.
-fn load(settings: Settings) -> Manager
-    ensures { λ r. ⌜ r ≡ calls.loaded settings ⌝ }
+// R19, L5: a manager with these settings, whatever it had before; whether it listens stays.
+fn load(manager: Manager, settings: Settings) -> Manager
+    ensures { λ r. ⌜ r ≡ calls.loaded manager settings ⌝ }
 {
     let networks = settings.networks;
     let state = slots::blank_state();
     Manager {
         stage: Stage::Loaded,
+        listening: manager.listening,
         count: settings.count,
         networks,
         states: [state; Settings::MOST_NETWORKS],
@@ -50,7 +52,7 @@ fn after_reading(manager: Manager, reading: Reading) -> Outcome
     match answer {
         sheet::Verdict::Accepted => Outcome {
             answer: Answer::Accepted,
-            manager: load(settings),
+            manager: load(manager, settings),
             count: settings.count as usize,
             mode: 0,
             place: reading.place,

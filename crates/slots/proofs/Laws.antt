@@ -9,4 +9,4 @@ use Rattle.slots.specs.Manager.{withState}
 pub with-state-out : (m : Manager) (i : ℕ) (s : State) → length (m .states) ≡ 8 → 8 ≤ i → m ≡ withState m i s
 with-state-out m i s e h =
     let k : length (m .states) ≤ i = omega arith in
-    λ j. record { stage = m .stage; count = m .count; networks = m .networks; states = sym (set-out (m .states) i s k) j }
+    λ j. record { stage = m .stage; listening = m .listening; count = m .count; networks = m .networks; states = sym (set-out (m .states) i s k) j }

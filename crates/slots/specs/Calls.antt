@@ -1,16 +1,17 @@
 -- The calls of the manager, and the outcome of each, complete: answer, next manager, count, polled mode, place, the records handed out, and where a
--- buffer is lent every byte of it. Of the refusals that apply the highest in the table of docs/RULES.md is given (R6). The rules R2 to R23, H2 to H4,
--- N6 to N9, N16, T1, B1, X1 and A1 to A5.
+-- buffer is lent every byte of it. Of the refusals that apply the highest in the table of docs/RULES.md is given (R6). The rules R2 to R24, H2 to H4,
+-- N6 to N9, N16, T1, B1, X1, L1 to L5 and A1 to A5.
 use Prim.Native.Nat.{ℕ, _*_}
 use mathlib.Core.Path.{_≡_}
-use mathlib.Core.List.{List, [], _∷_, _++_}
-use mathlib.Core.Bool.{cond}
-use lib.Dec.{leb, ltb}
+use mathlib.Core.List.{List, [], _∷_, _++_, map}
+use mathlib.Core.Bool.{Bool, false, not, cond}
+use lib.Dec.{leb, ltb, eqb}
 use lib.ListN.{length, drop, replicate}
 use Rattle.records.specs.declared.Mode.{Mode}
 use Rattle.records.specs.declared.Record.{Record}
-use Rattle.records.specs.Records.{modeNumber, bytes}
+use Rattle.records.specs.Records.{modeNumber, turned, bytes}
 use Rattle.settings.specs.declared.Settings.{Settings}
+use Rattle.settings.specs.declared.Network.{Network}
 use Rattle.settings.specs.declared.Id.{Id}
 use Rattle.settings.specs.declared.Holder.{Holder}
 use Rattle.settings.specs.Settings.{mostNetworks, blankNetwork, holderOf}
@@ -20,12 +21,13 @@ use Rattle.sheet.specs.declared.Written.{Written}
 use Rattle.sheet.specs.Reading.{decode}
 use Rattle.sheet.specs.Encode.{encode}
 use Rattle.sheet.specs.Writing.{bufferAfter}
+use Rattle.handing.specs.Handing.{onlineIn}
 use Rattle.network.specs.declared.Reply.{Reply}
 use Rattle.network.specs.declared.Report.{Report}
 use Rattle.network.specs.declared.State.{State}
 use Rattle.network.specs.declared.Trouble.{Trouble}
 use Rattle.network.specs.State.{started}
-use Rattle.network.specs.Moving.{tickState}
+use Rattle.network.specs.Moving.{tickState, tickRecords}
 use Rattle.network.specs.Replies.{isTaken}
 use Rattle.network.specs.Parts.{Sight, aBusOff, aStall, anAnswer, aRequest, aReport, partOf, recordsOf}
 use Rattle.slots.specs.declared.Stage.{Stage}
@@ -34,8 +36,8 @@ use Rattle.slots.specs.declared.Gate.{Gate}
 use Rattle.slots.specs.declared.Slot.{Slot}
 use Rattle.slots.specs.declared.Manager.{Manager}
 use Rattle.slots.specs.declared.Outcome.{Outcome}
-use Rattle.slots.specs.Manager.{networksOf, settingsOf, blankStates, networkAt, stateAt, withState, withStates, refused, accepted, each}
-use Rattle.slots.specs.Manager.{allRecords, tickNeeds}
+use Rattle.slots.specs.Manager.{networksOf, settingsOf, blankStates, networkAt, stateAt, withState, withStates, withListening, refused, accepted}
+use Rattle.slots.specs.Manager.{each, gathered, tickNeeds, listenNeeds}
 
 -- G2: a call with its arguments; of a lent buffer the number of bytes
 pub data Call : Type 0 where
@@ -51,12 +53,14 @@ pub data Call : Type 0 where
   clearDone : (transceiver : ℕ) → Call
   checkDone : (transceiver : ℕ) → Call
   tick : (room : ℕ) → Call
+  listen : (value room : ℕ) → Call
 
 -- ---- the sheet and the start
 
 -- a manager before any call: no sheet, every slot blank
 abbrev pub newManager : Manager
-newManager = record { stage = Stage.Empty; count = 0; networks = replicate mostNetworks blankNetwork; states = blankStates }
+newManager =
+    record { stage = Stage.Empty; listening = false; count = 0; networks = replicate mostNetworks blankNetwork; states = blankStates }
 
 -- one of three, by the stage
 abbrev pub byStage : {A : Type 0} → Stage → A → A → A → A
@@ -64,15 +68,16 @@ byStage Stage.Empty a b c = a
 byStage Stage.Loaded a b c = b
 byStage Stage.Started a b c = c
 
--- R19: a manager with the settings of the sheet that was read, whatever it had before
-abbrev pub loaded : Settings → Manager
-loaded s = record { stage = Stage.Loaded; count = s .count; networks = s .networks; states = blankStates }
+-- R19, L5: a manager with the settings of the sheet that was read, whatever it had before; whether it listens stays
+abbrev pub loaded : Manager → Settings → Manager
+loaded m s =
+    record { stage = Stage.Loaded; listening = m .listening; count = s .count; networks = s .networks; states = blankStates }
 
 -- what a reading gives that was made before the start
 abbrev pub afterReading : Manager → Reading → Verdict → Outcome
 -- R5, R19: accepted, its count is the number of networks and its place that of the reading; its sheet takes the place of the one before
 afterReading m r Verdict.Accepted =
-    record { answer = Answer.Accepted; manager = loaded (r .settings); count = r .settings .count; mode = 0; place = r .place }
+    record { answer = Answer.Accepted; manager = loaded m (r .settings); count = r .settings .count; mode = 0; place = r .place }
 -- R3, R4, R20: refused, the place is that of the refusal, the count is 0, and the former sheet stays in force
 afterReading m r (Verdict.Refused fault) = record { answer = Answer.Sheet fault; manager = m; count = 0; mode = 0; place = r .place }
 
@@ -90,9 +95,9 @@ unfoldable pub writingOf : Manager → ℕ → Outcome
 writingOf m room =
     cond (leb (length (encode (settingsOf m))) room) (accepted m (length (encode (settingsOf m)))) (refused m Answer.TooShort)
 
--- N7, N8: every network has the record of the start
+-- N7, N8, L5: every network has the record of the start, and the manager does not listen
 abbrev pub startedFrom : Manager → Manager
-startedFrom m = withStates m Stage.Started (each (λ n s. started n) (networksOf m) (m .states))
+startedFrom m = withStates m false (each (λ n s. started n) (networksOf m) (m .states))
 
 -- ---- a call that names an id
 
@@ -177,7 +182,28 @@ troubleNeeds Trouble.Stall = stallNeeds
 -- T1, H2: every network in use has ticked, in the order of the sheet, and the count is the number of all records
 unfoldable pub allTicked : Manager → Outcome
 allTicked m =
-    accepted (withStates m Stage.Started (each tickState (networksOf m) (m .states))) (length (allRecords (networksOf m) (m .states)))
+    accepted (withStates m (m .listening) (each tickState (networksOf m) (m .states)))
+    (length (gathered tickRecords (networksOf m) (m .states)))
+
+-- L3: a manager that listens or does not comes to do the other
+abbrev pub changes : Bool → Bool → Bool
+changes before after = cond before (not after) after
+
+-- L3: online for the controllers of each network that is in a step for it, in the order of the sheet
+unfoldable pub allOnline : Manager → List Record
+allOnline m = gathered (λ (n : Network) (s : State). onlineIn n (s .step)) (networksOf m) (m .states)
+
+-- L3: what is handed out again where that changes; where nothing changes, nothing
+unfoldable pub onlineAnew : Manager → Bool → List Record
+onlineAnew m listening = cond (changes (m .listening) listening) (allOnline m) []
+
+-- L1, L4: it listens or does not from now on, and no network's record changes
+unfoldable pub listened : Manager → Bool → Outcome
+listened m listening = accepted (withListening m listening) (length (onlineAnew m listening))
+
+-- R13, L1: 1 sets it and 0 clears it; any other value is refused with 21
+abbrev pub byValue : {A : Type 0} → ℕ → A → (Bool → A) → A
+byValue value refuse set = cond (ltb 1 value) refuse (set (eqb 1 value))
 
 -- ---- every call
 
@@ -207,22 +233,30 @@ outcome m (clearDone transceiver) = named m (Id.OfTransceiver transceiver) (aRep
 outcome m (checkDone transceiver) = named m (Id.OfTransceiver transceiver) (aReport Report.Checked)
 -- R7, R9, R16: 01, 20
 outcome m (tick room) = byGate m (gateOf m room (tickNeeds m)) (allTicked m)
+-- R7, R9, R13, R24, L1: 01, 20 (whatever it then hands out), 21 (above 1)
+outcome m (listen value room) = byGate m (gateOf m room (listenNeeds m)) (byValue value (refused m Answer.OutOfRange) (listened m))
 
--- H2: the records that a call hands out, in the order in which they are made; only a bus-off, a stall and a tick hand out any
-unfoldable pub handedOut : Manager → Call → List Record
-handedOut m (read bytes) = []
-handedOut m (write room) = []
+-- H2: the records that the rules of the networks make on a call, in the order in which they are made; only a bus-off, a stall, a tick and a call to
+-- listen make any
+unfoldable pub byRules : Manager → Call → List Record
+byRules m (read bytes) = []
+byRules m (write room) = []
 -- N9: none on the start
-handedOut m start = []
-handedOut m (request handle mode) = []
-handedOut m (poll handle) = []
-handedOut m (busOff controller room) = gateRecords (gateOf m room busOffNeeds) (slotRecords m (slotOf m (Id.OfController controller)) aBusOff)
-handedOut m (stall handle room) = gateRecords (gateOf m room stallNeeds) (slotRecords m (slotOf m (Id.OfNetwork handle)) aStall)
-handedOut m (answer controller mode ok) = []
-handedOut m (transceiverMode transceiver mode) = []
-handedOut m (clearDone transceiver) = []
-handedOut m (checkDone transceiver) = []
-handedOut m (tick room) = gateRecords (gateOf m room (tickNeeds m)) (allRecords (networksOf m) (m .states))
+byRules m start = []
+byRules m (request handle mode) = []
+byRules m (poll handle) = []
+byRules m (busOff controller room) = gateRecords (gateOf m room busOffNeeds) (slotRecords m (slotOf m (Id.OfController controller)) aBusOff)
+byRules m (stall handle room) = gateRecords (gateOf m room stallNeeds) (slotRecords m (slotOf m (Id.OfNetwork handle)) aStall)
+byRules m (answer controller mode ok) = []
+byRules m (transceiverMode transceiver mode) = []
+byRules m (clearDone transceiver) = []
+byRules m (checkDone transceiver) = []
+byRules m (tick room) = gateRecords (gateOf m room (tickNeeds m)) (gathered tickRecords (networksOf m) (m .states))
+byRules m (listen value room) = gateRecords (gateOf m room (listenNeeds m)) (byValue value [] (onlineAnew m))
+
+-- H2, L2: the records that a call hands out: those of the rules, with online turned where the manager listens after the call
+unfoldable pub handedOut : Manager → Call → List Record
+handedOut m c = map (turned (outcome m c .manager .listening)) (byRules m c)
 
 -- ---- lent buffers
 

@@ -1,7 +1,7 @@
--- The manager, its answers with their numbers, and what all calls share. The rules R1 to R4, R7 to R12, R16, H2 and T1 of docs/RULES.md.
+-- The manager, its answers with their numbers, and what all calls share. The rules R1 to R4, R7 to R13, R16, R24, H2, T1, L1 and L4 of docs/RULES.md.
 use Prim.Native.Nat.{ℕ, _+_, _*_, max}
 use mathlib.Core.List.{List, [], _∷_, _++_}
-use mathlib.Core.Bool.{false}
+use mathlib.Core.Bool.{Bool, false}
 use lib.ListN.{length, getD, take, set, replicate}
 use Rattle.records.specs.declared.Mode.{Mode}
 use Rattle.records.specs.declared.Record.{Record}
@@ -13,13 +13,13 @@ use Rattle.steps.specs.declared.Step.{Step}
 use Rattle.network.specs.declared.State.{State}
 use Rattle.network.specs.State.{blankAnswers}
 use Rattle.network.specs.Replies.{refusalNumber}
-use Rattle.network.specs.Moving.{tickRecords}
 use Rattle.slots.specs.declared.Stage.{Stage}
 use Rattle.slots.specs.declared.Answer.{Answer}
+use Rattle.slots.specs.declared.Share.{Share}
 use Rattle.slots.specs.declared.Manager.{Manager}
 use Rattle.slots.specs.declared.Outcome.{Outcome}
 
--- R1, R7 to R12, K6: the number of each answer, 0 for accepted; a network has its own refusals, and the sheet has those from 30 to 38
+-- R1, R7 to R13, K6: the number of each answer, 0 for accepted; a network has its own refusals, and the sheet has those from 30 to 38
 abbrev pub answerNumber : Answer → ℕ
 answerNumber Answer.Accepted = 0x00
 answerNumber Answer.NotReady = 0x01
@@ -28,6 +28,7 @@ answerNumber Answer.TooShort = 0x20
 answerNumber Answer.NoHandle = 0x03
 answerNumber Answer.NoController = 0x04
 answerNumber Answer.NoTransceiver = 0x05
+answerNumber Answer.OutOfRange = 0x21
 answerNumber (Answer.Network refusal) = refusalNumber refusal
 answerNumber (Answer.Sheet fault) = faultNumber fault
 
@@ -58,11 +59,17 @@ stateAt m i = getD (m .states) i blankState
 
 -- the record of slot i is new; the stage, the networks and all other records stay
 abbrev pub withState : Manager → ℕ → State → Manager
-withState m i s = record { stage = m .stage; count = m .count; networks = m .networks; states = set (m .states) i s }
+withState m i s = record { stage = m .stage; listening = m .listening; count = m .count; networks = m .networks; states = set (m .states) i s }
 
--- all records are new, and the stage may be: on a start and on a tick
-abbrev pub withStates : Manager → Stage → List State → Manager
-withStates m stage states = record { stage = stage; count = m .count; networks = m .networks; states = states }
+-- all records are new: on a start and on a tick, after both of which the manager is a started one
+abbrev pub withStates : Manager → Bool → List State → Manager
+withStates m listening states =
+    record { stage = Stage.Started; listening = listening; count = m .count; networks = m .networks; states = states }
+
+-- L1, L4: the manager listens, or does not; all else stays
+abbrev pub withListening : Manager → Bool → Manager
+withListening m listening =
+    record { stage = m .stage; listening = listening; count = m .count; networks = m .networks; states = m .states }
 
 -- R2 to R4: refused, the manager stays as it was; the count, the polled mode and the place are 0
 abbrev pub refused : Manager → Answer → Outcome
@@ -78,22 +85,39 @@ each f [] ss = ss
 each f (n ∷ ns) [] = []
 each f (n ∷ ns) (s ∷ ss) = f n s ∷ each f ns ss
 
--- T1, H2: what a tick hands out, network after network in the order of the sheet
-unfoldable pub allRecords : List Network → List State → List Record
-allRecords [] ss = []
-allRecords (n ∷ ns) [] = []
-allRecords (n ∷ ns) (s ∷ ss) = tickRecords n s ++ allRecords ns ss
+-- T1, L3, H2: what each network hands out, network after network in the order of the sheet
+unfoldable pub gathered : (Network → State → List Record) → List Network → List State → List Record
+gathered f [] ss = []
+gathered f (n ∷ ns) [] = []
+gathered f (n ∷ ns) (s ∷ ss) = f n s ++ gathered f ns ss
+
+-- how many controllers a network has
+abbrev pub controllerCount : Network → ℕ
+controllerCount n = length (controllersOf n)
 
 -- R16: how many records a network may hand out on a tick: one for each controller and two more. A network made up without any controller counts as
 -- one that has one, so that the room suffices for every manager, and not only for those that a sheet gives
 abbrev pub share : Network → ℕ
-share n = max 1 (length (controllersOf n)) + 2
+share n = max 1 (controllerCount n) + 2
 
--- how many records one tick may hand out, over all networks
-unfoldable pub shares : List Network → ℕ
-shares [] = 0
-shares (n ∷ ns) = share n + shares ns
+-- R16, R24: how many a network may hand out on a tick, or on a call to listen, which is one for each controller
+abbrev pub shareIn : Share → Network → ℕ
+shareIn Share.Tick n = share n
+shareIn Share.Listen n = controllerCount n
 
--- R16: the bytes that a tick needs: three for each record that its networks may hand out
+-- a number of each network, added up over all
+unfoldable pub summed : (Network → ℕ) → List Network → ℕ
+summed f [] = 0
+summed f (n ∷ ns) = f n + summed f ns
+
+-- three bytes for each record that the networks may hand out
+unfoldable pub needsOf : Share → Manager → ℕ
+needsOf share m = 3 * summed (shareIn share) (networksOf m)
+
+-- R16: the bytes that a tick needs
 unfoldable pub tickNeeds : Manager → ℕ
-tickNeeds m = 3 * shares (networksOf m)
+tickNeeds m = 3 * summed share (networksOf m)
+
+-- R24: the bytes that a call to listen needs: three for each controller of all networks
+unfoldable pub listenNeeds : Manager → ℕ
+listenNeeds m = 3 * summed controllerCount (networksOf m)

@@ -5,7 +5,7 @@ mod room;
 mod settling;
 
 ghost use mathlib.Core.Path.{_≡_};
-ghost use Rattle.slots.specs.Manager.{answerNumber, blankState, refused, accepted, networkAt, stateAt, withState};
+ghost use Rattle.slots.specs.Manager.{answerNumber, blankState, refused, accepted, networkAt, stateAt, withState, withListening};
 use entries::Fault;
 pub use finding::slot_of;
 use network::Refusal;
@@ -13,6 +13,7 @@ use network::State;
 use records::Mode;
 use records::Record;
 pub use room::gate_of;
+pub use room::listen_needs;
 pub use room::tick_needs;
 use settings::Network;
 use settings::Settings;
@@ -26,9 +27,10 @@ pub enum Stage {
     Started,
 }
 
-// The networks of the sheet, in its order, and the record of each; unused slots are blank.
+// The networks of the sheet, in its order, and the record of each; unused slots are blank. L1: beside them, whether the manager listens.
 pub struct Manager {
     pub stage: Stage,
+    pub listening: bool,
     pub count: u8,
     pub networks: [Network; Settings::MOST_NETWORKS],
     pub states: [State; Settings::MOST_NETWORKS],
@@ -38,6 +40,12 @@ pub struct Manager {
 pub enum Slot {
     Refused(Answer),
     At(usize),
+}
+
+// Of which call it is asked how many records a network may hand out.
+pub enum Share {
+    Tick,
+    Listen,
 }
 
 // Whether a call that is lent a buffer for records may go on, or its refusal: 01 or 20.
@@ -59,6 +67,8 @@ pub enum Answer {
     NoHandle,
     NoController,
     NoTransceiver,
+    // R13: 21, a value that says neither to listen nor not to.
+    OutOfRange,
     // 21, 08, 24, 25, 22: the refusals of the network that the call names.
     Network(Refusal),
     // 30 to 38, by the bytes of a sheet: the reader's own refusals.
@@ -80,6 +90,7 @@ impl Answer {
             Answer::NoHandle => 0x03,
             Answer::NoController => 0x04,
             Answer::NoTransceiver => 0x05,
+            Answer::OutOfRange => 0x21,
             Answer::Network(refusal) => refusal.number(),
             Answer::Sheet(fault) => fault.number(),
         }
@@ -130,6 +141,8 @@ impl Manager {
     pub const BUS_OFF_NEEDS: usize = Record::SIZE * Manager::BUS_OFF_RECORDS;
     // R21: the bytes of a stall, which hands out one record at most.
     pub const STALL_NEEDS: usize = Record::SIZE;
+    // L1: the value that sets listening; 0 clears it.
+    pub const LISTENS: u8 = 1;
     // The most records of a tick that name a network's handle and no controller.
     pub const NOTICES: usize = 2;
     // The most records of a tick, and the bytes that they need.
@@ -168,6 +181,15 @@ impl Manager {
         if at < Settings::MOST_NETWORKS {
             next.states[at] = state;
         }
+        next
+    }
+
+    // L1, L4: the manager that listens, or does not.
+    pub fn with_listening(self, listening: bool) -> Manager
+        ensures { λ r. ⌜ r ≡ withListening self listening ⌝ }
+    {
+        let mut next = self;
+        next.listening = listening;
         next
     }
 }

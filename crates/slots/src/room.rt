@@ -2,32 +2,35 @@
 use crate::Answer;
 use crate::Gate;
 use crate::Manager;
+use crate::Share;
 use crate::Stage;
 use records::Record;
 use settings::Network;
 use settings::Settings;
 ghost use mathlib.Core.Path.{_≡_};
 ghost use Prim.Native.Nat.{_≤_};
-ghost use Rattle.slots.specs.Manager.{share, tickNeeds};
+ghost use Rattle.slots.specs.Manager.{shareIn, needsOf, tickNeeds, listenNeeds};
 ghost use Rattle.slots.specs.Calls.{gateOf};
 
-// R16: how many records a network may hand out on a tick.
-fn share_of(network: Network) -> usize
-    ensures { λ r. ⌜ (r ≡ share network) × (r ≤ 6) ⌝ }
+// R16, R24: how many records a network may hand out, on a tick or on a call to listen.
+fn share_of(network: Network, share: Share) -> usize
+    ensures { λ r. ⌜ (r ≡ shareIn share network) × (r ≤ 6) ⌝ }
 {
-    let count = network.count as usize;
-    if count < Network::FEWEST_CONTROLLERS {
-        return Network::FEWEST_CONTROLLERS + Manager::NOTICES;
+    let count = Network::in_use(network.count) as usize;
+    match share {
+        Share::Listen => count,
+        Share::Tick => {
+            if count < Network::FEWEST_CONTROLLERS {
+                return Network::FEWEST_CONTROLLERS + Manager::NOTICES;
+            }
+            count + Manager::NOTICES
+        }
     }
-    if count < Network::MOST_CONTROLLERS {
-        return count + Manager::NOTICES;
-    }
-    Network::MOST_CONTROLLERS + Manager::NOTICES
 }
 
-// R16: the bytes that a tick needs.
-pub fn tick_needs(manager: Manager) -> usize
-    ensures { λ r. ⌜ r ≡ tickNeeds manager ⌝ }
+// The bytes that the records of all networks need.
+fn needs_of(manager: Manager, share: Share) -> usize
+    ensures { λ r. ⌜ r ≡ needsOf share manager ⌝ }
 {
     let networks = manager.networks;
     let used = Settings::in_use(manager.count);
@@ -35,10 +38,24 @@ pub fn tick_needs(manager: Manager) -> usize
     let mut i: u8 = 0;
     while i < used {
         let network = networks[i as usize];
-        total += share_of(network);
+        total += share_of(network, share);
         i += 1;
     }
     Record::SIZE * total
+}
+
+// R16: the bytes that a tick needs.
+pub fn tick_needs(manager: Manager) -> usize
+    ensures { λ r. ⌜ r ≡ tickNeeds manager ⌝ }
+{
+    needs_of(manager, Share::Tick)
+}
+
+// R24: the bytes that a call to listen needs.
+pub fn listen_needs(manager: Manager) -> usize
+    ensures { λ r. ⌜ r ≡ listenNeeds manager ⌝ }
+{
+    needs_of(manager, Share::Listen)
 }
 
 // R6, R7, R9: a call that hands out records goes on where the manager is started and the lent buffer has the room.

@@ -1,5 +1,5 @@
 -- The seventeen steps as one table, with a row for each: its number, its phase, what it asks for and what it counts. What holds of whole groups of
--- steps is said of the phase. The rules N1, N2, N4, N5 and N10 of docs/RULES.md.
+-- steps is said of the phase. The rules N1, N2, N4, N5, N10 and L3 of docs/RULES.md.
 use Prim.Native.Nat.{ℕ}
 use mathlib.Core.Bool.{Bool, true, false}
 use lib.Dec.{eqb}
@@ -97,6 +97,17 @@ fullPhase Phase.Silent = false
 fullPhase Phase.Falling = false
 fullPhase Phase.Resetting = false
 
+-- L3: the phases of steps 4, 5, 15 and 16
+abbrev pub onlinePhase : Phase → Bool
+onlinePhase Phase.Off = false
+onlinePhase Phase.Rising = false
+onlinePhase Phase.Checking = true
+onlinePhase Phase.Full = true
+onlinePhase Phase.Recovering = false
+onlinePhase Phase.Silent = false
+onlinePhase Phase.Falling = false
+onlinePhase Phase.Resetting = true
+
 -- steps 1 to 8, 15 and 16
 abbrev pub isOn : Step → Bool
 isOn step = onPhase (phaseOf step)
@@ -108,6 +119,10 @@ isUp step = upPhase (phaseOf step)
 -- N5: steps 4 and 5
 abbrev pub isFullStep : Step → Bool
 isFullStep step = fullPhase (phaseOf step)
+
+-- L3: steps 4, 5, 15 and 16, whose controllers were last handed online
+abbrev pub isOnlineStep : Step → Bool
+isOnlineStep step = onlinePhase (phaseOf step)
 
 -- B2: step 6, in which the controllers are started again after a bus-off
 abbrev pub isRestarting : Step → Bool

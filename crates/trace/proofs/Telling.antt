@@ -36,6 +36,7 @@ event-counts (Event.CheckDone transceiver) = refl
 event-counts Event.Tick = refl
 event-counts (Event.Poll handle) = refl
 event-counts (Event.Stall handle) = refl
+event-counts (Event.Listen value) = refl
 
 -- it is lent at most 144 bytes
 event-room : (event : Event) → roomOf (callOf event) ≤ 144
@@ -48,6 +49,7 @@ event-room (Event.CheckDone transceiver) = omega arith
 event-room Event.Tick = omega arith
 event-room (Event.Poll handle) = omega arith
 event-room (Event.Stall handle) = omega arith
+event-room (Event.Listen value) = omega arith
 
 -- there are at most 48 records
 pub event-fits : (m : Manager) (event : Event) (o : Outcome) {lent buffer : List ℕ} → Gives m (callOf event) lent o buffer → o .count ≤ 48

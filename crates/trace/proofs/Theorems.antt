@@ -40,7 +40,8 @@ item-decided tag v =
     (either (eqb tag 0x15) _ _ (by-size (length v) 1 _)
     (either (eqb tag 0x16) _ _ (by-size (length v) 0 _)
     (either (eqb tag 0x17) _ _ (by-size (length v) 1 _)
-    (either (eqb tag 0x18) _ _ (by-size (length v) 1 _) is-bad))))))))
+    (either (eqb tag 0x18) _ _ (by-size (length v) 1 _)
+    (either (eqb tag 0x19) _ _ (by-size (length v) 1 _) is-bad)))))))))
 
 -- ---- the lines that are left
 -- at the end of the input there are none

@@ -6,7 +6,7 @@ use mathlib.Core.Bool.{cond}
 use lib.Dec.{eqb}
 use lib.ListN.{length, getD}
 use Rattle.fields.specs.Fields.{Row, stop, stub, overrun, field}
-use Rattle.slots.specs.Calls.{Call, request, poll, busOff, stall, answer, transceiverMode, clearDone, checkDone, tick}
+use Rattle.slots.specs.Calls.{Call, request, poll, busOff, stall, answer, transceiverMode, clearDone, checkDone, tick, listen}
 use Rattle.trace.specs.declared.Event.{Event}
 use Rattle.trace.specs.declared.Item.{Item}
 
@@ -14,7 +14,7 @@ use Rattle.trace.specs.declared.Item.{Item}
 abbrev pub sized : ℕ → ℕ → Event → Item
 sized n wanted event = cond (eqb n wanted) (Item.Known event) Item.Bad
 
--- C7 to C14, C22: what a field with this tag, this length and these first bytes of its value is
+-- C7 to C14, C22, C23: what a field with this tag, this length and these first bytes of its value is
 unfoldable pub eventOf : ℕ → ℕ → ℕ → ℕ → ℕ → Item
 eventOf tag n first second third =
     cond (eqb tag 0x10) (sized n 2 (Event.Request first second))
@@ -26,7 +26,8 @@ eventOf tag n first second third =
     (cond (eqb tag 0x16) (sized n 0 Event.Tick)
     (cond (eqb tag 0x17) (sized n 1 (Event.Poll first))
     (cond (eqb tag 0x18) (sized n 1 (Event.Stall first))
-    Item.Bad))))))))
+    (cond (eqb tag 0x19) (sized n 1 (Event.Listen first))
+    Item.Bad)))))))))
 
 -- a whole field by its tag and its value; a byte that the value has not is taken as 0, and no event looks at it
 unfoldable pub itemOf : ℕ → List ℕ → Item
@@ -50,3 +51,4 @@ callOf (Event.CheckDone transceiver) = checkDone transceiver
 callOf Event.Tick = tick 144
 callOf (Event.Poll handle) = poll handle
 callOf (Event.Stall handle) = stall handle 144
+callOf (Event.Listen value) = listen value 144

@@ -5,7 +5,7 @@ use mathlib.Core.Bool.{Bool, true, false, cond}
 use Rattle.text.specs.Text.{blank, newline, decimal, recordsText}
 use Rattle.records.specs.declared.Record.{Record}
 use Rattle.slots.specs.declared.Manager.{Manager}
-use Rattle.slots.specs.Calls.{Call, read, write, start, request, poll, busOff, stall, answer, transceiverMode, clearDone, checkDone, tick}
+use Rattle.slots.specs.Calls.{Call, read, write, start, request, poll, busOff, stall, answer, transceiverMode, clearDone, checkDone, tick, listen}
 use Rattle.calls.specs.Histories.{Entry, entryOf}
 use Rattle.trace.specs.declared.Event.{Event}
 use Rattle.trace.specs.Events.{callOf}
@@ -44,6 +44,7 @@ polls (transceiverMode transceiver mode) = false
 polls (clearDone transceiver) = false
 polls (checkDone transceiver) = false
 polls (tick room) = false
+polls (listen value room) = false
 
 -- C18, C19: what follows the answer: the records, or of a poll its mode
 unfoldable pub saidOf : Bool → ℕ → List Record → List ℕ

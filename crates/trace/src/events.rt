@@ -88,6 +88,9 @@ fn event_of(tag: u8, length: u16, first: u8, second: u8, third: u8) -> Item
     if tag == Event::STALL {
         return sized(length, Event::STALL_LENGTH, Event::Stall { handle: first });
     }
+    if tag == Event::LISTEN {
+        return sized(length, Event::LISTEN_LENGTH, Event::Listen { value: first });
+    }
     Item::Bad
 }
 
@@ -159,5 +162,6 @@ pub fn run_event(manager: Manager, event: Event, buffer: &mut [u8; Trace::LENT])
         Event::Tick => manager::tick(manager, buffer),
         Event::Poll { handle } => manager::poll(manager, handle),
         Event::Stall { handle } => manager::stall(manager, handle, buffer),
+        Event::Listen { value } => manager::listen(manager, value, buffer),
     }
 }

@@ -24,6 +24,7 @@ pub enum Event {
     Tick,
     Poll { handle: u8 },
     Stall { handle: u8 },
+    Listen { value: u8 },
 }
 
 impl Event {
@@ -45,6 +46,8 @@ impl Event {
     pub const POLL: u8 = 0x17;
 
     pub const STALL: u8 = 0x18;
+
+    pub const LISTEN: u8 = 0x19;
     // The lengths of their values.
     pub const REQUEST_LENGTH: u16 = 2;
 
@@ -63,6 +66,8 @@ impl Event {
     pub const POLL_LENGTH: u16 = 1;
 
     pub const STALL_LENGTH: u16 = 1;
+
+    pub const LISTEN_LENGTH: u16 = 1;
 }
 
 // What stands at a place of the events.

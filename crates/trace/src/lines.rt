@@ -62,6 +62,7 @@ fn is_poll(event: Event) -> bool
         Event::Tick => false,
         Event::Poll { handle: _ } => true,
         Event::Stall { handle: _ } => false,
+        Event::Listen { value: _ } => false,
     }
 }
 

@@ -5,13 +5,14 @@ use mathlib.Core.List.{flatten}
 use Rattle.lists.specs.Lists.{any}
 use lib.Seq.{take-at}
 use Rattle.records.specs.declared.Record.{Record}
+use Rattle.records.specs.Records.{turned}
 use Rattle.settings.specs.declared.Id.{Id}
 use Rattle.network.specs.Parts.{Sight}
 use Rattle.fields.specs.Fields.{Row, stop, stub, overrun, field, rowAt}
 use Rattle.slots.specs.declared.Manager.{Manager}
 use Rattle.slots.specs.declared.Outcome.{Outcome}
 use Rattle.slots.specs.Calls.{Call, read, write, start, request, poll, busOff, stall, answer, transceiverMode, clearDone, checkDone, tick}
-use Rattle.slots.specs.Calls.{allTicked, outcome, handedOut}
+use Rattle.slots.specs.Calls.{listen, allTicked, listened, outcome, byRules, handedOut}
 use Rattle.calls.specs.Histories.{Entry, entryOf, History, Since, begun, goes, to, addressOf}
 use Rattle.calls.proofs.ByCall.{by-call}
 use Rattle.text.specs.Text.{blank, newline, decimal, recordsText}
@@ -64,25 +65,33 @@ named-no-poll (transceiverMode transceiver mode) id sight e = refl
 named-no-poll (clearDone transceiver) id sight e = refl
 named-no-poll (checkDone transceiver) id sight e = refl
 named-no-poll (tick room) id sight e = refl
+named-no-poll (listen value room) id sight e = refl
 
 -- only a poll gives a mode, and it hands out nothing
 record Silent (c : Call) (o : Outcome) (rs : List Record) : Type 0 where
   mode : polls c ≡ false → o .mode ≡ 0
   records : polls c ≡ true → rs ≡ []
 
-silent : (m : Manager) (c : Call) → Silent c (outcome m c) (handedOut m c)
-unfolding allTicked
-silent m = by-call m Silent (record {
+rules-silent : (m : Manager) (c : Call) → Silent c (outcome m c) (byRules m c)
+unfolding allTicked listened
+rules-silent m = by-call m Silent (record {
   refuses = λ c a r f. record { mode = λ _. refl; records = λ _. refl };
   declines = λ c id sight i a e f d r. record { mode = λ _. refl; records = λ _. refl };
   takes = λ c id sight i e f t room. record { mode = λ _. refl; records = λ p. absurd (true≢false (sym p ∙ named-no-poll c id sight e)) };
   ticks = λ room s e. record { mode = λ _. refl; records = λ p. absurd (false≢true p) };
+  listens = λ value room s e a. record { mode = λ _. refl; records = λ p. absurd (false≢true p) };
   polls = λ handle i f. record { mode = λ p. absurd (true≢false p); records = λ _. refl };
   reads = λ bytes f e. record { mode = λ _. refl; records = λ _. refl };
   misreads = λ bytes fault f. record { mode = λ _. refl; records = λ _. refl };
   writes = λ room f. record { mode = λ _. refl; records = λ _. refl };
   starts = λ e. record { mode = λ _. refl; records = λ _. refl };
 })
+
+silent : (m : Manager) (c : Call) → Silent c (outcome m c) (handedOut m c)
+unfolding handedOut
+silent m c =
+    let made = rules-silent m c in
+    record { mode = made .mode; records = λ p. ap (map (turned (outcome m c .manager .listening))) (made .records p) }
 
 -- so the line of a call determines its entry
 pub line-determines : (k l : ℕ) (m n : Manager) (c : Call) →

@@ -21,9 +21,11 @@ use Rattle.trace.specs.Splitting.{eventsFrom}
 use Rattle.trace.specs.Trace.{readingOf, firstLine, firstManager, ending, runLines, eventLines, linesAfter, traceOf}
 use Rattle.demands.specs.Demands.{Begun, Demand3}
 use Rattle.demands.specs.ComesUp.{ComesUp}
+use Rattle.demands.specs.Listening.{Listening, ListensIn}
 use Rattle.demands.proofs.Follow.{follow}
 use Rattle.demands.proofs.DemandThree.{demand-3}
 use Rattle.demands.proofs.ComesUp.{comes-up}
+use Rattle.demands.proofs.Listening.{listening-since, listens-in}
 use Rattle.trace_demands.specs.Recorded.{historyLines, historyAfter, managerAfter, eventsOf, Recorded, HasRoom}
 use Rattle.trace_demands.proofs.Room.{events-not-short, events-then-tick}
 
@@ -99,6 +101,13 @@ module _ (s : List ℕ) (bytes : Bytes s) (taken : eqb (answerNumber (readingOf 
   -- and so do the figures
   pub recorded-comes-up : (i : ℕ) → i < length (networksOf (firstManager s)) → ComesUp (firstManager s) (networkAt (firstManager s) i)
   recorded-comes-up i h = comes-up (firstManager s) first-begun i h
+
+  -- and so does what is said of listening
+  pub recorded-listening : Listening (firstManager s)
+  recorded-listening = listening-since (firstManager s) first-begun
+
+  pub recorded-listens-in : (i : ℕ) → i < length (networksOf (firstManager s)) → ListensIn (firstManager s) i
+  recorded-listens-in i h = listens-in (firstManager s) first-begun i h
 
   -- what its calls are lent is room for any of them
   pub recorded-has-room : HasRoom s

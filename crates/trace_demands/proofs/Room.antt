@@ -14,12 +14,12 @@ use Rattle.slots.specs.declared.Answer.{Answer}
 use Rattle.slots.specs.declared.Gate.{Gate}
 use Rattle.slots.specs.declared.Manager.{Manager}
 use Rattle.slots.specs.declared.Outcome.{Outcome}
-use Rattle.slots.specs.Manager.{answerNumber, networkAt, stateAt, tickNeeds}
-use Rattle.slots.specs.Calls.{Call, byStage, unknown, bySlot, answerOf, settled, slotOutcome, named, gateOf, byGate, allTicked, outcome}
+use Rattle.slots.specs.Manager.{answerNumber, networkAt, stateAt, tickNeeds, listenNeeds}
+use Rattle.slots.specs.Calls.{Call, byStage, unknown, bySlot, answerOf, settled, slotOutcome, named, gateOf, byGate, allTicked, listened, outcome}
 use Rattle.calls.specs.Histories.{entryOf, answersOf, History, Since, goes}
 use Rattle.calls.proofs.ByCall.{by-slot}
 use Rattle.manager_theorems.specs.Careful.{Sound}
-use Rattle.manager_theorems.proofs.Counts.{tick-needs-most}
+use Rattle.manager_theorems.proofs.Counts.{tick-needs-most, listen-needs-most}
 use Rattle.trace.specs.declared.Event.{Event}
 use Rattle.trace.specs.Events.{callOf}
 use Rattle.demands.specs.Demands.{Begun}
@@ -77,7 +77,7 @@ module _ (m : Manager) where
   among c none e = false≢true (sym none ∙ subst (λ (k : ℕ). member k (answersOf c) ≡ true) e (every-call-answers m c))
 
   event-not-short : Sound m → (event : Event) → NotShort (outcome m (callOf event))
-  unfolding any outcome allTicked
+  unfolding any outcome allTicked listened
   event-not-short s (Event.Request handle mode) = among (callOf (Event.Request handle mode)) refl
   event-not-short s (Event.BusOff controller) = gate-not-short 9 _ (omega arith) (named-not-short (Id.OfController controller) aBusOff)
   event-not-short s (Event.Answer controller mode ok) = among (callOf (Event.Answer controller mode ok)) refl
@@ -87,6 +87,8 @@ module _ (m : Manager) where
   event-not-short s Event.Tick = gate-not-short (tickNeeds m) _ (tick-needs-most m s) (λ e. omega arith)
   event-not-short s (Event.Poll handle) = among (callOf (Event.Poll handle)) refl
   event-not-short s (Event.Stall handle) = gate-not-short 3 _ (omega arith) (named-not-short (Id.OfNetwork handle) aStall)
+  event-not-short s (Event.Listen value) = gate-not-short (listenNeeds m) _ (omega (arith, listen-needs-most m s))
+      (split NotShort (ltb 1 value) (λ _ e. omega arith) (λ _ e. omega arith))
 
   tick-accepted : Sound m → m .stage ≡ Stage.Started → outcome m (callOf Event.Tick) .answer ≡ Answer.Accepted
   unfolding outcome gateOf allTicked tickNeeds

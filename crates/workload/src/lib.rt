@@ -56,6 +56,12 @@ fn begin(sheet: &[u8]) -> Manager {
     started.manager
 }
 
+// The manager after listening was set.
+fn quiet(manager: Manager, out: &mut [u8; Manager::TICK_NEEDS]) -> Manager {
+    let outcome = manager::listen(manager, Manager::LISTENS, out);
+    outcome.manager
+}
+
 // What has come of the rounds so far.
 struct Played {
     manager: Manager,
@@ -198,6 +204,29 @@ pub extern "C" fn proved_ticks(
     out: &mut [u8; Manager::TICK_NEEDS],
 ) -> u32 {
     let settled = play(begin(sheet), style, SETTLING, out);
+    tick_alone(settled.manager, rounds, out)
+}
+
+// The same two with a manager that listens.
+#[no_mangle]
+pub extern "C" fn proved_quiet_play(
+    sheet: &[u8],
+    style: u8,
+    rounds: u64,
+    out: &mut [u8; Manager::TICK_NEEDS],
+) -> u32 {
+    let played = play(quiet(begin(sheet), out), style, rounds, out);
+    played.sum
+}
+
+#[no_mangle]
+pub extern "C" fn proved_quiet_ticks(
+    sheet: &[u8],
+    style: u8,
+    rounds: u64,
+    out: &mut [u8; Manager::TICK_NEEDS],
+) -> u32 {
+    let settled = play(quiet(begin(sheet), out), style, SETTLING, out);
     tick_alone(settled.manager, rounds, out)
 }
 

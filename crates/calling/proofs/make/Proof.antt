@@ -68,10 +68,16 @@ returns-12 c =
     returned (made .before .before .enum-told4 .given .1) (seen .shared-slice-known .given) (made .tick .ensures .result)
     (made .tick .ensures .buffer)
 
+returns-13 : tie.Need-returns-13
+returns-13 c =
+    let made = c .before .before in let seen = made .before .before .before .before .before .before in
+    returned (made .before .before .before .task9 .given .1) (seen .shared-slice-known .given)
+    (made .listen .ensures .result) (made .listen .ensures .buffer)
+
 pub make-spec : {M : Type 1} → statement M
 make-spec = tie.close (tie.spec (λ c. search needs) (λ c κs. search needs) (λ c. search needs) (λ c κs. search needs) (λ c. search needs)
     (λ c κs. search needs) (λ c. search needs) (λ c κs. search needs) (λ c. search needs) (λ c κs. search needs) (λ c. search needs)
     (λ c κs. search needs) (λ c. search needs) (λ c κs. search needs) (λ c. search needs) (λ c κs. search needs) (λ c. search needs)
     (λ c κs. search needs) (λ c. search needs) (λ c κs. search needs) (λ c. search needs) (λ c κs. search needs) (λ c. search needs)
-    (λ c κs. search needs) returns (λ c. search needs) returns-2 returns-3 returns-4 returns-5 (λ c. search needs) returns-6 (λ c. search needs)
-    returns-7 returns-8 returns-9 returns-10 returns-11 (λ c. search needs) returns-12)
+    (λ c κs. search needs) (λ c. search needs) (λ c κs. search needs) returns (λ c. search needs) returns-2 returns-3 returns-4 returns-5 (λ c. search needs) returns-6 (λ c. search needs)
+    returns-7 returns-8 returns-9 returns-10 returns-11 (λ c. search needs) returns-12 (λ c. search needs) returns-13)

@@ -6,20 +6,21 @@ use Rattle.lists.proofs.Parts.{unmapped}
 use Rattle.records.specs.Wrote.{Wrote}
 use Rattle.records.proofs.Laws.{wrote-length}
 use Rattle.settings.specs.Settings.{blankNetwork}
-use Rattle.network.specs.Moving.{tickState}
-use Rattle.slots.specs.Manager.{each, allRecords, tickNeeds}
+use Rattle.network.specs.Moving.{tickState, tickRecords}
+use Rattle.slots.specs.Manager.{each, gathered, tickNeeds}
 use Rattle.slots.proofs.Each.{each-none, each-more}
-use Rattle.lent_calls.proofs.Ticks.{ticked-none, tick-room, tick-wrote, rests-so, rest-kept, rest-wrote, ticks-end}
+use Rattle.lent_calls.proofs.Ticks.{tick-room, tick-wrote, rests-so, rest-kept, rest-wrote, ticks-end}
+use Rattle.lent_calls.proofs.Gathered.{gathered-none}
 use Rattle.lent_calls.proofs.ticking.tick_networks.Statement.{statement}
 use Rattle.lent_calls.proofs.ticking.tick_networks.Tie as tie
 
 abbrev Inv-loop : tie.InvT-loop
-Inv-loop out₀ count networks states₀ next₀ used i₀ out states next i =
+Inv-loop out₀ listening count networks states₀ next₀ used i₀ out states next i =
     (i ≤ used) × (length out ≡ length out₀) × (states ≡ each tickState (take i networks) states₀) × Wrote out₀ out 0 next
-    (allRecords (take i networks) states₀)
+    (gathered tickRecords (take i networks) states₀)
 
 abbrev μ-loop : tie.MeasureT-loop
-μ-loop out₀ count networks states₀ next₀ used i₀ out states next i = used - i
+μ-loop out₀ listening count networks states₀ next₀ used i₀ out states next i = used - i
 
 tick-requires : tie.Need-tick-requires Inv-loop μ-loop
 unfolding tickNeeds
@@ -62,7 +63,7 @@ returns c =
     ticks-end m _ (l .i) e (a .pre) (l .inv .2) (l .inv .3)
 
 pub tick-networks-spec : {M : Type 1} → statement M
-tick-networks-spec = tie.close (tie.spec Inv-loop μ-loop (λ c κs. search needs) (λ c. (omega arith, refl, each-none _ _, ticked-none _ _))
+tick-networks-spec = tie.close (tie.spec Inv-loop μ-loop (λ c κs. search needs) (λ c. (omega arith, refl, each-none _ _, gathered-none tickRecords _ _))
     (λ c. search needs) (λ c. search needs) (λ c. omega arith) (λ c κs. search needs)
     (λ c. search needs) (λ c. search needs) (λ c. omega arith) tick-requires (λ c. search needs) (λ c. search needs) (λ c. omega arith)
     (λ c. search needs) (λ c. search needs) loop-again (λ c. c .before .loop .inv .1) returns)

@@ -4,18 +4,17 @@ use Rattle.lists.proofs.Parts.{unmapped, take-min}
 use Rattle.settings.specs.declared.Network.{Network}
 use Rattle.network.specs.declared.State.{State}
 use Rattle.network.specs.State.{started}
-use Rattle.slots.specs.declared.Stage.{Stage}
 use Rattle.slots.specs.Manager.{blankState, withStates, each}
 use Rattle.slots.proofs.Each.{each-none, each-more}
 use Rattle.setting_up.proofs.starting.start_networks.Statement.{statement}
 use Rattle.setting_up.proofs.starting.start_networks.Tie as tie
 
 abbrev Inv-loop : tie.InvT-loop
-Inv-loop count networks states₀ used i₀ states i =
+Inv-loop listening count networks states₀ used i₀ states i =
     (i ≤ used) × (length states ≡ 8) × (states ≡ each (λ (n : Network) (s : State). started n) (take i networks) states₀)
 
 abbrev μ-loop : tie.MeasureT-loop
-μ-loop count networks states₀ used i₀ states i = used - i
+μ-loop listening count networks states₀ used i₀ states i = used - i
 
 loop-holds : tie.Need-loop-holds Inv-loop μ-loop
 loop-holds c =
@@ -39,7 +38,7 @@ returns c =
     let l = c .before .loop in let a = c .before .before .before .before .before .args in
     let f : length (a .manager .networks) ≡ 8 = search (unmapped, needs) in
     let t = take-min (a .manager .networks) (a .manager .count) (l .i) (omega arith) in
-    ap (withStates (a .manager) Stage.Started)
+    ap (withStates (a .manager) (a .manager .listening))
     (l .inv .2 ∙ ap (λ (ns : List Network). each (λ (n : Network) (s : State). started n) ns (a .manager .states)) t)
 
 pub start-networks-spec : {M : Type 1} → statement M

@@ -5,21 +5,28 @@ use Rattle.slots.proofs.room.share_of.Tie as tie
 
 returns : tie.Need-returns
 returns c =
-    let n = c .before .before .args .network in
+    let used = c .before .before .before in
+    let n = used .before .args .network in
     let four : length (n .controllers) ≡ 4 = search needs in
-    omega (arith, four, length-take (n .count) (n .controllers), c .if1 .taken)
+    rw (c .before .enum-told2 .given .1)
+    (omega (arith, four, length-take (n .count) (n .controllers), used .in-use .ensures, c .if1 .taken), omega arith)
 
 returns-2 : tie.Need-returns-2
 returns-2 c =
-    let n = c .before .before .before .args .network in
+    let used = c .before .before in
+    let n = used .before .args .network in
     let four : length (n .controllers) ≡ 4 = search needs in
-    omega (arith, four, length-take (n .count) (n .controllers), c .if2 .taken, c .before .if1 .left)
+    rw (c .enum-told .given .1)
+    (omega (arith, four, length-take (n .count) (n .controllers), used .in-use .ensures), omega (arith, used .in-use .ensures))
 
 returns-3 : tie.Need-returns-3
 returns-3 c =
-    let n = c .before .before .before .args .network in
+    let used = c .before .before .before in
+    let n = used .before .args .network in
     let four : length (n .controllers) ≡ 4 = search needs in
-    omega (arith, four, length-take (n .count) (n .controllers), c .if2 .left, c .before .if1 .left)
+    rw (c .before .enum-told2 .given .1)
+    (omega (arith, four, length-take (n .count) (n .controllers), used .in-use .ensures, c .if1 .left), omega (arith, used .in-use .ensures))
 
 pub share-of-spec : {M : Type 1} → statement M
-share-of-spec = tie.close (tie.spec (λ c. search needs) (λ c. search needs) returns (λ c. search needs) returns-2 (λ c. search needs) returns-3)
+share-of-spec = tie.close (tie.spec (λ c κs. search needs) (λ c. search needs) (λ c. search needs) (λ c. search needs) (λ c. search needs) returns
+    (λ c. omega (arith, c .before .before .before .in-use .ensures)) returns-2 returns-3)
