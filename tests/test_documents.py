@@ -375,7 +375,7 @@ def counted() -> List[Tuple[str, int]]:
     ]
 
 
-SMALL_WORDS = "two three four five six seven eight nine ten eleven twelve thirteen fourteen".split()
+SMALL_WORDS = "two three four five six seven eight nine ten eleven twelve thirteen fourteen fifteen".split()
 SMALL_NUMBERS = {word: number for number, word in enumerate(SMALL_WORDS, start=2)}
 
 
@@ -594,6 +594,13 @@ class Documents(unittest.TestCase):
         quoted = [block for block in indented_blocks(documents()["README.md"]) if block and block[0].startswith("20 0 8:7:1")]
         self.assertEqual([len(block) for block in quoted], [13])
         self.assertIn("\n".join(quoted[0]), "\n".join(beside))
+
+    def test_the_records_of_one_network_are_those_shown(self):
+        """Beside either neighbour the records that name network 7 or its controller 3 are the line of README."""
+        shown = indented_blocks(documents()["README.md"])
+        for name in ("calm", "noisy"):
+            output = (ROOT / "examples" / f"{name}-neighbour.txt").read_text(encoding="utf-8")
+            self.assertIn([" ".join(re.findall(r"(?<= )(?:[13]:3|[678]:7):\d+", output))], shown)
 
 
 class FaultsAreFound(unittest.TestCase):

@@ -26,6 +26,8 @@ NUMBER = re.compile(r"\b[A-Z]\d+\b")
 LIST = r"[A-Z]\d+(?:(?:, | to | and )[A-Z]\d+)*"
 CITATION = re.compile(rf"^\s*(?:--|//+|#|/\*+|\*) ({LIST}): ", re.MULTILINE)
 ROW = re.compile(rf"^\| ({LIST}) \|", re.MULTILINE)
+# The table of letters, each with a link to its section.
+LETTER = re.compile(r"^\| \[([A-Z])\]\(#", re.MULTILINE)
 
 
 def expanded(numbers: str) -> List[str]:
@@ -66,6 +68,9 @@ class Rules(unittest.TestCase):
 
     def test_each_letter_counts_from_one(self):
         self.assertEqual(gaps(self.rules), [])
+
+    def test_the_table_has_each_letter_in_the_order_of_the_rules(self):
+        self.assertEqual(LETTER.findall(RULES.read_text()), list(dict.fromkeys(rule[0] for rule in self.rules)))
 
     def test_each_citation_exists(self):
         unknown = [(str(path.relative_to(ROOT)), rule) for path in files(CITING) for rule in sorted(cited(path.read_text()) - set(self.rules))]

@@ -1,7 +1,7 @@
 -- A call of the manager, taken apart once: by the stage, by the slot that its id names, and by what the network makes of it. Whatever holds of each
 -- of these cases holds of every call.
 use Rattle.lists.proofs.Basics.{ℕ, zero, suc, _*_, _<_, _≤_, arith, ltb-false, _≡_, refl, sym, ap, subst, _∙_, List, [], _∷_, Bool, true, false}
-use Rattle.lists.proofs.Basics.{cond, true≢false, _||_, _&&_, eqb, leb, ltb, length, getD, length-take, getD-take}
+use Rattle.lists.proofs.Basics.{cond, true≢false, _||_, _&&_, eqb, leb, ltb, length, getD}
 use Rattle.lists.specs.Lists.{any, first}
 use Rattle.lists.proofs.Any.{first-below, first-passes}
 use Rattle.records.specs.declared.Record.{Record}
@@ -33,16 +33,13 @@ use Rattle.slots.specs.declared.Manager.{Manager}
 use Rattle.slots.specs.declared.Outcome.{Outcome}
 use Rattle.slots.specs.Manager.{answerNumber, networksOf, settingsOf, networkAt, stateAt, withState, refused, accepted, gathered, tickNeeds, listenNeeds}
 use Rattle.slots.specs.Calls.{Call, read, write, start, request, poll, busOff, stall, answer, transceiverMode, clearDone, checkDone, tick, listen, byStage}
-use Rattle.slots.specs.Calls.{afterReading, readInto, writingOf, startedFrom, unknown, slotAt, slotOf, bySlot, answerOf, settled, slotOutcome}
+use Rattle.slots.specs.Calls.{afterReading, readInto, writingOf, startedFrom, unknown, slotAt, slotOf, bySlot, answerOf, slotOutcome}
 use Rattle.slots.specs.Calls.{named, slotRecords, polled, gateOf, byGate, gateRecords, troubleNeeds, allTicked, onlineAnew, listened, outcome, byRules}
+use Rattle.slots.proofs.Own.{slot-takes, slot-declines, slot-network}
 use Rattle.lent_calls.proofs.Ticks.{hit-fits, trouble-part, trouble-records}
 use Rattle.calls.specs.Histories.{isAccepted, to, toNobody, addressOf, seenAs, refusalsOf, roomOf}
 
 -- ---- which network has an id
--- the network of a slot in use
-pub slot-network : (m : Manager) (i : ℕ) → i < length (networksOf m) → getD (networksOf m) i blankNetwork ≡ networkAt m i
-slot-network m i h = let t = length-take (m .count) (m .networks) in getD-take (m .count) (m .networks) i blankNetwork (omega arith)
-
 -- nobody has the id: no network of the list does
 none-has : (id : Id) (l : List Network) (i : ℕ) (d : Network) → any (has id) l ≡ false → i < length l → has id (getD l i d) ≡ false
 unfolding any
@@ -149,13 +146,18 @@ module _ (m : Manager) (P : Call → Outcome → List Record → Type 0) (by : B
 
   at-slot : (c : Call) (id : Id) (sight : Sight) → Refusals c id sight → (i : ℕ) → Found m id i
       → P c (slotOutcome m i sight) (recordsOf (networkAt m i) (stateAt m i) sight)
-  unfolding slotOutcome settled
-  at-slot c id sight r i f =
-      split (λ (o : Outcome). P c o (recordsOf (networkAt m i) (stateAt m i) sight)) (isTaken (partOf (networkAt m i) (stateAt m i) sight .reply))
-      (λ e. by .takes c id sight i (r .names 0) f e (r .fits i))
-      (λ e. subst (P c (refused m (answerOf (partOf (networkAt m i) (stateAt m i) sight .reply))))
-      (sym (refused-stays (networkAt m i) (stateAt m i) sight e .1)) (by .declines c id sight i _ (r .names _) f
-      (record { refused = e; answer = refl }) (r .declined i e)))
+  at-slot c id sight r i f = by-reply (isTaken (partOf (networkAt m i) (stateAt m i) sight .reply)) refl
+    where
+      by-reply : (taken : Bool) → isTaken (partOf (networkAt m i) (stateAt m i) sight .reply) ≡ taken
+          → P c (slotOutcome m i sight) (recordsOf (networkAt m i) (stateAt m i) sight)
+      by-reply true e =
+          subst (λ (o : Outcome). P c o (recordsOf (networkAt m i) (stateAt m i) sight)) (sym (slot-takes m i sight e))
+          (by .takes c id sight i (r .names 0) f e (r .fits i))
+      by-reply false e =
+          subst (λ (o : Outcome). P c o (recordsOf (networkAt m i) (stateAt m i) sight)) (sym (slot-declines m i sight e))
+          (subst (P c (refused m (answerOf (partOf (networkAt m i) (stateAt m i) sight .reply))))
+          (sym (refused-stays (networkAt m i) (stateAt m i) sight e .1)) (by .declines c id sight i _ (r .names _) f
+          (record { refused = e; answer = refl }) (r .declined i e)))
 
   by-named : (c : Call) (id : Id) (sight : Sight) → Refusals c id sight → P c (named m id sight) (slotRecords m (slotOf m id) sight)
   unfolding named

@@ -1,2 +1,3 @@
 pub mod ByCall
 pub mod Counts
+pub mod ByKind

@@ -1,5 +1,5 @@
 -- Histories: calls with the answers and the records that they gave; the managers that calls can lead to; and how one network sees a call. Then the
--- answers that a call can have, and what it is lent. The rules R1, R5, R6, H2, H4, T2, L1, L4 and L5 of docs/RULES.md.
+-- answers that a call can have, and what it is lent. The rules R1, R5, R6, H2, H4, T2, L1, L4, L5 and V1 of docs/RULES.md.
 use Prim.Native.Nat.{ℕ}
 use mathlib.Core.Path.{_≡_}
 use mathlib.Core.List.{List, [], _∷_}
@@ -53,6 +53,22 @@ pub data Reached : Manager → Type 0 where
   after : (m : Manager) (c : Call) → ReadsBytes m c → Reached m → Reached (outcome m c .manager)
 
 -- ---- how one network sees a call
+
+-- V1: the id that a call names, a handle, a controller's or a transceiver's, as a list of none or one
+abbrev pub idsOf : Call → List Id
+idsOf (read bytes) = []
+idsOf (write room) = []
+idsOf start = []
+idsOf (request handle mode) = Id.OfNetwork handle ∷ []
+idsOf (poll handle) = Id.OfNetwork handle ∷ []
+idsOf (busOff controller room) = Id.OfController controller ∷ []
+idsOf (stall handle room) = Id.OfNetwork handle ∷ []
+idsOf (answer controller mode ok) = Id.OfController controller ∷ []
+idsOf (transceiverMode transceiver mode) = Id.OfTransceiver transceiver ∷ []
+idsOf (clearDone transceiver) = Id.OfTransceiver transceiver ∷ []
+idsOf (checkDone transceiver) = Id.OfTransceiver transceiver ∷ []
+idsOf (tick room) = []
+idsOf (listen value room) = []
 
 -- whom a call concerns: the network that has an id, and what it is to that network; every network; or none
 pub data Address : Type 0 where

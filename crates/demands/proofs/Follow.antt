@@ -15,9 +15,9 @@ use Rattle.slots.specs.declared.Outcome.{Outcome}
 use Rattle.slots.specs.Manager.{networksOf, settingsOf, networkAt, stateAt, refused, accepted, summed, share, tickNeeds}
 use Rattle.slots.specs.Calls.{Call, start, byStage, startedFrom, outcome}
 use Rattle.calls.specs.Histories.{Entry, entryOf, History, Since, begun, goes}
-use Rattle.calls.proofs.ByCall.{slot-network}
+use Rattle.slots.proofs.Own.{slot-network, each-slot}
 use Rattle.manager_theorems.specs.Careful.{Sound}
-use Rattle.manager_theorems.proofs.Sound.{each-slot, slot-in-range, call-sound, call-settled, reached-sound}
+use Rattle.manager_theorems.proofs.Sound.{slot-in-range, call-sound, call-settled, reached-sound}
 use Rattle.network_demands.specs.Own.{played, stateOf, Fits, Ran}
 use Rattle.network_demands.proofs.Slots.{fresh-distinct}
 use Rattle.demands.specs.View.{viewOf, viewsOf}

@@ -6,6 +6,7 @@ pub mod Parts
 pub mod Switches
 pub mod Follow
 pub mod Listening
+pub mod Across
 pub mod DemandThree
 pub mod Promises
 pub mod Lives

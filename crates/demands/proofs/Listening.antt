@@ -26,6 +26,7 @@ use Rattle.slots.specs.Manager.{answerNumber, networksOf, blankState, networkAt
 use Rattle.slots.specs.Calls.{Call, start, changes, allOnline, onlineAnew, allTicked, listened, outcome, byRules, handedOut}
 use Rattle.calls.specs.Histories.{Entry, entryOf, History, Since, begun, goes, Switch, turns, leaves, switchOf, switched, listening}
 use Rattle.calls.proofs.ByCall.{by-call}
+use Rattle.calls.proofs.ByKind.{address-names}
 use Rattle.manager_theorems.specs.Careful.{Sound}
 use Rattle.network_demands.specs.Words.{Seen, since, told}
 use Rattle.network_demands.specs.Own.{played, Fits}
@@ -35,17 +36,16 @@ use Rattle.network_theorems.specs.Kept.{Kept}
 use Rattle.network_demands.proofs.Arrows.{suits, ownOutfit}
 use Rattle.network_demands.proofs.Standing.{stands}
 use Rattle.network_demands.proofs.Online.{sending-means, pdu-same, pdu-each, StaysOnline, hands-online, finds-online, stays-online}
-use Rattle.demands.specs.View.{keep, isTurned, unturned, plainly, viewOf, viewsOf}
+use Rattle.demands.specs.View.{keep, isTurned, unturned, viewOf, viewsOf}
 use Rattle.demands.specs.Demands.{Begun}
 use Rattle.demands.specs.Listening.{onlineAs, lastPdu, leftOut, without, Listening, ListensIn}
 use Rattle.demands.proofs.Apart.{Once}
-use Rattle.demands.proofs.Plainly.{names-leaves}
 use Rattle.demands.proofs.Parts.{own-gathered}
-use Rattle.demands.proofs.Switches.{refused-leaves, call-switches, call-quiet, call-aloud, call-plain, handed-turned, call-hushed, entry-hushed}
+use Rattle.demands.proofs.Switches.{refused-leaves, call-switches, call-quiet, call-aloud, call-plain, view-plain, handed-turned, call-hushed, entry-hushed}
 use Rattle.demands.proofs.Follow.{Tracked, same-network, in-use, once, part, follow, latest, in-range}
 
 -- ---- a call that sets or clears it
-no-turn : {A : Type 0} {to : Bool} → leaves ≡ turns to → A
+pub no-turn : {A : Type 0} {to : Bool} → leaves ≡ turns to → A
 no-turn e = absurd (let z : _≡_ {A = ℕ} 0 1 = cc in omega arith)
 
 same-turn : {from to : Bool} → turns from ≡ turns to → from ≡ to
@@ -56,14 +56,14 @@ module _ (m : Manager) (started : m .stage ≡ Stage.Started) where
   unstarted e = absurd (let z : _≡_ {A = ℕ} 0 1 = cc in omega arith)
 
   -- it changes nothing else of a started manager
-  turn-alone : (c : Call) (to : Bool) → switchOf (entryOf m c .number) c ≡ turns to
+  pub turn-alone : (c : Call) (to : Bool) → switchOf (entryOf m c .number) c ≡ turns to
       → withListening (outcome m c .manager) false ≡ withListening m false
   unfolding allTicked listened
   turn-alone = by-call m (λ c o rs. (to : Bool) → switchOf (answerNumber (o .answer)) c ≡ turns to → withListening (o .manager) false
       ≡ withListening m false) (record {
         refuses = λ c a r f to e. refl;
         declines = λ c id sight i a n f d r to e. refl;
-        takes = λ c id sight i n f t k to e. no-turn (sym (names-leaves 0 c id sight n) ∙ e);
+        takes = λ c id sight i n f t k to e. no-turn (sym (address-names 0 c id sight n .1) ∙ e);
         ticks = λ room s k to e. no-turn e;
         listens = λ value room s k a to e. refl;
         polls = λ handle i f to e. refl;
@@ -74,14 +74,14 @@ module _ (m : Manager) (started : m .stage ≡ Stage.Started) where
       })
 
   -- P of what goes out on it
-  by-turn : (P : Bool → List Record → Type 0) → ((to : Bool) → P to (map (turned to) (onlineAnew m to)))
+  pub by-turn : (P : Bool → List Record → Type 0) → ((to : Bool) → P to (map (turned to) (onlineAnew m to)))
       → (c : Call) (to : Bool) → switchOf (entryOf m c .number) c ≡ turns to → P to (handedOut m c)
   unfolding allTicked listened handedOut
   by-turn P p = by-call m (λ c o rs. (to : Bool) → switchOf (answerNumber (o .answer)) c ≡ turns to → P to (map (turned (o .manager .listening)) rs))
       (record {
         refuses = λ c a r f to e. no-turn (sym (refused-leaves (answerNumber a) c (r .refused)) ∙ e);
         declines = λ c id sight i a n f d r to e. no-turn (sym (refused-leaves (answerNumber a) c (r .refused)) ∙ e);
-        takes = λ c id sight i n f t k to e. no-turn (sym (names-leaves 0 c id sight n) ∙ e);
+        takes = λ c id sight i n f t k to e. no-turn (sym (address-names 0 c id sight n .1) ∙ e);
         ticks = λ room s k to e. no-turn e;
         listens = λ value room s k a to e.
             subst (λ (x : Bool). P x (map (turned (eqb 1 value)) (onlineAnew m (eqb 1 value)))) (same-turn e) (p (eqb 1 value));
@@ -123,7 +123,7 @@ own-turned n listening r = by-test (listening && isOnline r) refl
         ap (λ (k : ℕ). member (r .target) (targetsOf n k)) kind
     by-test false e = refl
 
-keep-turned : (n : Network) (listening : Bool) (rs : List Record) → keep (ownRecord n) (map (turned listening) rs)
+pub keep-turned : (n : Network) (listening : Bool) (rs : List Record) → keep (ownRecord n) (map (turned listening) rs)
     ≡ map (turned listening) (keep (ownRecord n) rs)
 unfolding keep
 keep-turned n listening [] = refl
@@ -251,7 +251,7 @@ pdu-agrees c l (r ∷ rs) out made = by-test (eqb 3 (r .kind) && eqb c (r .targe
 -- ---- the whole manager
 module _ (m₀ : Manager) (b : Begun m₀) where
   -- the start clears it
-  starts-deaf : m₀ .listening ≡ false
+  pub starts-deaf : m₀ .listening ≡ false
   starts-deaf =
       ap (λ (m : Manager). m .listening) (b .same) ∙ call-switches (b .before) start
       ∙ ap (λ (a : Answer). switched (switchOf (answerNumber a) start) (b .before .listening)) (b .accepted)
@@ -409,12 +409,8 @@ module _ (m₀ : Manager) (b : Begun m₀) (i : ℕ) (used : i < length (network
         step-after : isOnlineStep (played n (stateAt m i) (view .sight) .state .step) ≡ true
         step-after = ap (λ (t : State). isOnlineStep (t .step)) (sym (part m₀ m h f call i used .1)) ∙ online-now
 
-        -- the view has the rules' own records that name the network's ids
-        made : view .records ≡ keep (ownRecord n) (byRules m call)
-        made = ap (λ (y : Switch). keep (ownRecord n) (plainly y (handedOut m call))) x ∙ ap (keep (ownRecord n)) (call-plain m call)
-
         seen-by : (a : ℕ) → pduBy c (byRules m call) a ≡ pduBy c (view .records) a
-        seen-by a = sym (ap (λ (rs : List Record). pduBy c rs a) made ∙ own-pdu n c own (byRules m call) a)
+        seen-by a = sym (ap (λ (rs : List Record). pduBy c rs a) (view-plain m call n x) ∙ own-pdu n c own (byRules m call) a)
 
         out : handedOut m call ≡ map (turned (listening h)) (byRules m call)
         out = handed-turned m call (listening h)

@@ -1,4 +1,4 @@
--- Demand 3, the figures and what is said of listening hold of what calls returned to the code that made them.
+-- Demand 3, the figures, what is said of listening, and that nothing leaks across hold of what calls returned to the code that made them.
 use Rattle.lists.proofs.Basics.{_≡_, refl, sym, ap, _∙_, _∷_, _++_}
 use Rattle.slots.specs.declared.Manager.{Manager}
 use Rattle.slots.specs.declared.Outcome.{Outcome}
@@ -12,6 +12,7 @@ use Rattle.demands.specs.Lives.{SinceStart}
 use Rattle.demands.proofs.DemandThree.{demand-3}
 use Rattle.demands.proofs.ComesUp.{comes-up}
 use Rattle.demands.proofs.Listening.{listening-since, listens-in}
+use Rattle.demands.proofs.Across.{nothing-leaks}
 
 -- wherever a start was accepted, as code read it off the number that came back
 pub lived-demand-3 : (m₀ m : Manager) (s : History) (e : Entry) (h : History) → New m₀ → Lived m₀ m (s ++ (e ∷ h)) → e .call ≡ start → e .number ≡ 0
@@ -34,4 +35,5 @@ lived-demand-3 m₀ m s e h new l starts accepted =
       comes-up = λ i used. comes-up (c .result .manager) begun i used;
       listening = listening-since (c .result .manager) begun;
       listens-in = λ i used. listens-in (c .result .manager) begun i used;
+      nothing-leaks = λ i used. nothing-leaks (c .result .manager) begun i used;
     }

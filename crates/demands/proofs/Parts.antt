@@ -34,13 +34,14 @@ use Rattle.slots.specs.declared.Outcome.{Outcome}
 use Rattle.slots.specs.Manager.{answerNumber, networksOf, blankState, networkAt, stateAt, gathered}
 use Rattle.slots.specs.Calls.{Call, slotOf, allTicked, changes, allOnline, onlineAnew, listened, outcome, byRules, handedOut}
 use Rattle.calls.specs.Histories.{Address, to, addressOf, seenAs, Switch, switchOf, entryOf}
-use Rattle.calls.proofs.ByCall.{slot-network, Found, by-slot, answer-number, Declines, ByCall, by-call}
+use Rattle.slots.proofs.Own.{slot-network, slot-state, ticked-own}
+use Rattle.calls.proofs.ByCall.{Found, by-slot, answer-number, Declines, ByCall, by-call}
+use Rattle.calls.proofs.ByKind.{address-names}
 use Rattle.manager_theorems.specs.Careful.{Sound}
-use Rattle.manager_theorems.proofs.Sound.{slot-state, each-slot}
 use Rattle.network_demands.proofs.Handed.{move-hands-none}
 use Rattle.network_demands.specs.Own.{hitAfter, played, handed, concerns, Fits}
 use Rattle.demands.specs.View.{keep, isTurned, plainly, viewOf}
-use Rattle.demands.proofs.Plainly.{plainly-none, plain-again, online-left-out, names-leaves}
+use Rattle.demands.proofs.Plainly.{plainly-none, plain-again, online-left-out}
 use Rattle.demands.proofs.Apart.{Once, has-once, own-once, keep-append, keep-all, keep-none}
 
 -- ---- the box of the demands plays the network's own part
@@ -269,7 +270,7 @@ module _
         (subst (Plays (cond (has id n) sight nothing) 0 (stored j sight)) (sym (taken-left c id sight j e))
         (taken-plays id sight j f t (has id n) refl));
     ticks = λ room g k. record {
-      state = each-slot m tickState (sound .networks) (sound .states) i h;
+      state = ticked-own m (sound .networks) (sound .states) i h;
       answer = λ _. refl;
       records = ap (keep (ownRecord n)) (plain-again (m .listening) _ (ticks-plain (networksOf m) (m .states))) ∙ own-gathered tickRecords tick-own;
     };
@@ -286,7 +287,7 @@ module _
           → left 0 c (m .listening) (recordsOf (networkAt m j) (stateAt m j) sight) ≡ recordsOf (networkAt m j) (stateAt m j) sight
       taken-left c id sight j e =
           let rs = recordsOf (networkAt m j) (stateAt m j) sight in
-          ap (λ (x : Switch). plainly x (map (turned (m .listening)) rs)) (names-leaves 0 c id sight e)
+          ap (λ (x : Switch). plainly x (map (turned (m .listening)) rs)) (address-names 0 c id sight e .1)
           ∙ plain-again (m .listening) rs (part-plain (networkAt m j) (stateAt m j) sight)
 
   -- as the demands see it

@@ -1,16 +1,13 @@
 -- Listening taken out of the records of a call: what is left is what the rules of the networks make, and no test of other records is misled by it.
-use Rattle.lists.proofs.Basics.{ℕ, arith, eqb-true, _≡_, refl, sym, ap, _∙_, List, [], _∷_, map, Bool, true, false, not, _&&_, _||_, cond, true≢false}
+use Rattle.lists.proofs.Basics.{ℕ, eqb-true, _≡_, refl, sym, ap, _∙_, List, [], _∷_, map, Bool, true, false, not, _&&_, _||_, cond, true≢false}
 use Rattle.lists.proofs.Basics.{eqb}
 use Rattle.lists.specs.Lists.{any, every}
 use Rattle.lists.proofs.Any.{and-both, every-cons}
 use Rattle.records.specs.declared.Record.{Record}
 use Rattle.records.specs.Records.{handed, listens, isOnline, turned}
 use Rattle.settings.specs.declared.Network.{Network}
-use Rattle.settings.specs.declared.Id.{Id}
 use Rattle.handing.specs.Handing.{ownRecord}
-use Rattle.network.specs.Parts.{Sight}
-use Rattle.slots.specs.Calls.{Call, read, write, start, request, poll, busOff, stall, answer, transceiverMode, clearDone, checkDone, tick, listen}
-use Rattle.calls.specs.Histories.{Entry, to, addressOf, Switch, turns, leaves, switchOf}
+use Rattle.calls.specs.Histories.{Entry, Switch, turns, leaves, switchOf}
 use Rattle.demands.specs.View.{keep, isTurned, unturned, plainly, viewOf}
 
 -- ---- a record
@@ -59,22 +56,6 @@ online-left-out x listening (r ∷ rs) e =
 
     gone : isOnline r ≡ true → not (isOnline (unturned (turned listening r))) ≡ false
     gone o = rw (unturned-turned listening r (plain o), o) refl
-
--- a call that names an id leaves it as it was whether the manager listens
-pub names-leaves : (number : ℕ) (c : Call) (id : Id) (sight : Sight) → addressOf number c ≡ to id sight → switchOf number c ≡ leaves
-names-leaves number (read bytes) id sight e = refl
-names-leaves number (write room) id sight e = refl
-names-leaves number start id sight e = absurd (let z : _≡_ {A = ℕ} 0 1 = cc in omega arith)
-names-leaves number (request handle mode) id sight e = refl
-names-leaves number (poll handle) id sight e = refl
-names-leaves number (busOff controller room) id sight e = refl
-names-leaves number (stall handle room) id sight e = refl
-names-leaves number (answer controller mode ok) id sight e = refl
-names-leaves number (transceiverMode transceiver mode) id sight e = refl
-names-leaves number (clearDone transceiver) id sight e = refl
-names-leaves number (checkDone transceiver) id sight e = refl
-names-leaves number (tick room) id sight e = refl
-names-leaves number (listen value room) id sight e = absurd (let z : _≡_ {A = ℕ} 0 1 = cc in omega arith)
 
 -- ---- what the view hides
 -- no online record in either form

@@ -7,12 +7,13 @@ use Rattle.lists.proofs.Any.{and-both, every-cons}
 use Rattle.records.specs.declared.Record.{Record}
 use Rattle.records.specs.Records.{listens, isOnline, turned}
 use Rattle.records.proofs.Laws.{turned-none}
+use Rattle.settings.specs.declared.Network.{Network}
 use Rattle.settings.specs.declared.Id.{Id}
 use Rattle.sheet.specs.declared.Verdict.{Verdict}
 use Rattle.sheet.specs.Reading.{decode}
 use Rattle.sheet.specs.Encode.{encode}
-use Rattle.network.specs.Parts.{Sight, aBusOff, aStall, anAnswer, aRequest, aReport, partOf, recordsOf}
-use Rattle.network.specs.declared.Report.{Report}
+use Rattle.handing.specs.Handing.{ownRecord}
+use Rattle.network.specs.Parts.{Sight, sightOf, partOf, recordsOf}
 use Rattle.network.specs.Replies.{isTaken}
 use Rattle.slots.specs.declared.Stage.{Stage}
 use Rattle.slots.specs.declared.Gate.{Gate}
@@ -22,31 +23,30 @@ use Rattle.slots.specs.declared.Manager.{Manager}
 use Rattle.slots.specs.declared.Outcome.{Outcome}
 use Rattle.slots.specs.Manager.{answerNumber, networksOf, settingsOf, networkAt, stateAt, withState, withListening, refused, accepted}
 use Rattle.slots.specs.Manager.{tickNeeds, listenNeeds}
-use Rattle.slots.specs.Calls.{Call, read, write, start, request, poll, busOff, stall, answer, transceiverMode, clearDone, checkDone, tick, listen, byStage}
+use Rattle.slots.specs.Calls.{Call, listen, byStage}
 use Rattle.slots.specs.Calls.{afterReading, readInto, writingOf, slotOf, bySlot, answerOf, settled, slotOutcome, named, slotRecords, polled}
-use Rattle.slots.specs.Calls.{gateOf, byGate, gateRecords, busOffNeeds, stallNeeds, allTicked, onlineAnew, listened, outcome, byRules, handedOut}
+use Rattle.slots.specs.Calls.{gateOf, byGate, gateRecords, troubleNeeds, allTicked, onlineAnew, listened, outcome, byRules, handedOut}
 use Rattle.calls.specs.Histories.{Entry, entryOf, Switch, leaves, switchOf, switched}
 use Rattle.calls.proofs.ByCall.{by-call}
-use Rattle.demands.specs.View.{isTurned, unturned}
-use Rattle.demands.proofs.Plainly.{plain-again, names-leaves}
+use Rattle.calls.proofs.ByKind.{Kind, namesId, reportsTrouble, isPoll, isRead, isWrite, isStart, isTick, isListen, kindOf, address-names}
+use Rattle.demands.specs.View.{keep, isTurned, unturned, plainly, viewOf}
+use Rattle.demands.proofs.Plainly.{plain-again}
 use Rattle.demands.proofs.Parts.{part-plain, ticks-plain, anew-online}
 
 -- ---- which of the two it is
 -- a refusal leaves it
 pub refused-leaves : (number : ℕ) (c : Call) → eqb 0 number ≡ false → switchOf number c ≡ leaves
-refused-leaves number (read bytes) e = refl
-refused-leaves number (write room) e = refl
-refused-leaves number start e = rw e refl
-refused-leaves number (request handle mode) e = refl
-refused-leaves number (poll handle) e = refl
-refused-leaves number (busOff controller room) e = refl
-refused-leaves number (stall handle room) e = refl
-refused-leaves number (answer controller mode ok) e = refl
-refused-leaves number (transceiverMode transceiver mode) e = refl
-refused-leaves number (clearDone transceiver) e = refl
-refused-leaves number (checkDone transceiver) e = refl
-refused-leaves number (tick room) e = refl
-refused-leaves number (listen value room) e = rw e refl
+refused-leaves number c e = by-kind c (kindOf c)
+  where
+    by-kind : (c : Call) → Kind c → switchOf number c ≡ leaves
+    by-kind _ (namesId c id sight k) = k .switch number
+    by-kind _ (reportsTrouble c room id trouble k) = k .switch number
+    by-kind _ (isPoll handle) = refl
+    by-kind _ (isRead bytes) = refl
+    by-kind _ (isWrite room) = refl
+    by-kind _ isStart = rw e refl
+    by-kind _ (isTick room) = refl
+    by-kind _ (isListen value room) = rw e refl
 
 -- after each call it is what the call says of it
 pub call-switches : (m : Manager) (c : Call) → outcome m c .manager .listening ≡ switched (switchOf (entryOf m c .number) c) (m .listening)
@@ -54,7 +54,7 @@ unfolding allTicked listened
 call-switches m = by-call m (λ c o rs. o .manager .listening ≡ switched (switchOf (answerNumber (o .answer)) c) (m .listening)) (record {
   refuses = λ c a r f. ap (λ (x : Switch). switched x (m .listening)) (sym (refused-leaves (answerNumber a) c (r .refused)));
   declines = λ c id sight i a e f d r. ap (λ (x : Switch). switched x (m .listening)) (sym (refused-leaves (answerNumber a) c (r .refused)));
-  takes = λ c id sight i e f t k. ap (λ (x : Switch). switched x (m .listening)) (sym (names-leaves 0 c id sight e));
+  takes = λ c id sight i e f t k. ap (λ (x : Switch). switched x (m .listening)) (sym (address-names 0 c id sight e .1));
   ticks = λ room s e. refl;
   listens = λ value room s e a. refl;
   polls = λ handle i f. refl;
@@ -127,6 +127,10 @@ module _ (m : Manager) (c : Call) where
   unfolding handedOut
   call-plain = plain-again (outcome m c .manager .listening) (byRules m c) (rules-plain m c)
 
+  -- and so a network sees its own of these, where the call leaves it as it was
+  pub view-plain : (n : Network) → switchOf (entryOf m c .number) c ≡ leaves → viewOf n (entryOf m c) .records ≡ keep (ownRecord n) (byRules m c)
+  view-plain n e = ap (λ (x : Switch). keep (ownRecord n) (plainly x (handedOut m c))) e ∙ ap (keep (ownRecord n)) call-plain
+
 -- ---- nothing else goes by it
 -- an outcome after which the manager does not listen
 abbrev pub hushed : Outcome → Outcome
@@ -196,19 +200,18 @@ module _ (m : Manager) where
   -- of a call that leaves it as it was
   pub call-hushed : (c : Call) → switchOf (entryOf m c .number) c ≡ leaves → outcome deaf c ≡ hushed (outcome m c)
   unfolding outcome slotOf gateOf allTicked tickNeeds listenNeeds
-  call-hushed (read bytes) e = by-stage (m .stage) _ _ _ _ _ _ (read-hushed bytes) (read-hushed bytes) refl
-  call-hushed (write room) e = by-stage (m .stage) _ _ _ _ _ _ refl (write-hushed room) (write-hushed room)
-  call-hushed start e = by-stage (m .stage) _ _ _ _ _ _ refl refl refl
-  call-hushed (request handle mode) e = named-hushed (Id.OfNetwork handle) (aRequest mode)
-  call-hushed (poll handle) e = poll-hushed (slotOf m (Id.OfNetwork handle))
-  call-hushed (busOff controller room) e = gate-hushed (gateOf m room busOffNeeds) _ _ (named-hushed (Id.OfController controller) aBusOff)
-  call-hushed (stall handle room) e = gate-hushed (gateOf m room stallNeeds) _ _ (named-hushed (Id.OfNetwork handle) aStall)
-  call-hushed (answer controller mode ok) e = named-hushed (Id.OfController controller) (anAnswer controller mode ok)
-  call-hushed (transceiverMode transceiver mode) e = named-hushed (Id.OfTransceiver transceiver) (aReport (Report.Transceiver mode))
-  call-hushed (clearDone transceiver) e = named-hushed (Id.OfTransceiver transceiver) (aReport Report.Cleared)
-  call-hushed (checkDone transceiver) e = named-hushed (Id.OfTransceiver transceiver) (aReport Report.Checked)
-  call-hushed (tick room) e = gate-hushed (gateOf m room (tickNeeds m)) _ _ refl
-  call-hushed (listen value room) e = listen-hushed value (gateOf m room (listenNeeds m)) (ltb 1 value) e
+  call-hushed c = by-kind c (kindOf c)
+    where
+      by-kind : (c : Call) → Kind c → switchOf (entryOf m c .number) c ≡ leaves → outcome deaf c ≡ hushed (outcome m c)
+      by-kind _ (namesId c id sight k) e = k .gives deaf ∙ named-hushed id sight ∙ ap hushed (sym (k .gives m))
+      by-kind _ (reportsTrouble c room id trouble k) e =
+          k .gives deaf ∙ gate-hushed (gateOf m room (troubleNeeds trouble)) _ _ (named-hushed id (sightOf trouble)) ∙ ap hushed (sym (k .gives m))
+      by-kind _ (isPoll handle) e = poll-hushed (slotOf m (Id.OfNetwork handle))
+      by-kind _ (isRead bytes) e = by-stage (m .stage) _ _ _ _ _ _ (read-hushed bytes) (read-hushed bytes) refl
+      by-kind _ (isWrite room) e = by-stage (m .stage) _ _ _ _ _ _ refl (write-hushed room) (write-hushed room)
+      by-kind _ isStart e = by-stage (m .stage) _ _ _ _ _ _ refl refl refl
+      by-kind _ (isTick room) e = gate-hushed (gateOf m room (tickNeeds m)) _ _ refl
+      by-kind _ (isListen value room) e = listen-hushed value (gateOf m room (listenNeeds m)) (ltb 1 value) e
 
   -- a call to listen whose records are not looked at: it is refused
   listen-made : (value : ℕ) (gate : Gate) (above : Bool)
@@ -225,19 +228,18 @@ module _ (m : Manager) where
 
   call-made : (c : Call) → switchOf (entryOf m c .number) c ≡ leaves → byRules deaf c ≡ byRules m c
   unfolding outcome byRules slotOf gateOf tickNeeds listenNeeds
-  call-made (read bytes) e = refl
-  call-made (write room) e = refl
-  call-made start e = refl
-  call-made (request handle mode) e = refl
-  call-made (poll handle) e = refl
-  call-made (busOff controller room) e = ap (gateRecords (gateOf m room busOffNeeds)) (slot-made (slotOf m (Id.OfController controller)) aBusOff)
-  call-made (stall handle room) e = ap (gateRecords (gateOf m room stallNeeds)) (slot-made (slotOf m (Id.OfNetwork handle)) aStall)
-  call-made (answer controller mode ok) e = refl
-  call-made (transceiverMode transceiver mode) e = refl
-  call-made (clearDone transceiver) e = refl
-  call-made (checkDone transceiver) e = refl
-  call-made (tick room) e = refl
-  call-made (listen value room) e = listen-made value (gateOf m room (listenNeeds m)) (ltb 1 value) e
+  call-made c = by-kind c (kindOf c)
+    where
+      by-kind : (c : Call) → Kind c → switchOf (entryOf m c .number) c ≡ leaves → byRules deaf c ≡ byRules m c
+      by-kind _ (namesId c id sight k) e = k .makes deaf ∙ sym (k .makes m)
+      by-kind _ (reportsTrouble c room id trouble k) e =
+          k .makes deaf ∙ ap (gateRecords (gateOf m room (troubleNeeds trouble))) (slot-made (slotOf m id) (sightOf trouble)) ∙ sym (k .makes m)
+      by-kind _ (isPoll handle) e = refl
+      by-kind _ (isRead bytes) e = refl
+      by-kind _ (isWrite room) e = refl
+      by-kind _ isStart e = refl
+      by-kind _ (isTick room) e = refl
+      by-kind _ (isListen value room) e = listen-made value (gateOf m room (listenNeeds m)) (ltb 1 value) e
 
   -- so its entry is the same, with argument 2 of kind 3 read as online
   pub entry-hushed : (c : Call) → switchOf (entryOf m c .number) c ≡ leaves

@@ -39,7 +39,7 @@ history-since m₀ m h [] s = s
 history-since m₀ m h (c ∷ cs) s = history-since m₀ (outcome m c .manager) (entryOf m c ∷ h) cs (goes m h c s)
 
 -- a new manager with a sheet, started
-abbrev startedBy : List ℕ → Manager
+abbrev pub startedBy : List ℕ → Manager
 startedBy sheet = run newManager (read sheet ∷ start ∷ [])
 
 -- the history of calls since then
@@ -233,6 +233,15 @@ pub full-of-the-second : summaryBy sheetOfTwo 1 (firstUp ++ (busOff 3 9 ∷ seco
     ((tick 21 ∷ both 1) ++ (tick 21 ∷ tick 21 ∷ tick 21 ∷ tick 21 ∷ tick 21 ∷ tick 21 ∷ [])) ≡ goodSummary 2 7 7
 unfolding computedHistory
 full-of-the-second = refl
+
+-- ---- two networks whose ids cross: that of the bench sheet, and one with handle 3 and controller 7
+abbrev pub crossedSheet : List ℕ
+crossedSheet =
+    benchSheet ++ (0x01 ∷ 0 ∷ 1 ∷ 3
+    ∷ 0x02 ∷ 0 ∷ 1 ∷ 7
+    ∷ 0x04 ∷ 0 ∷ 6 ∷ 0 ∷ 2 ∷ 0 ∷ 5 ∷ 0 ∷ 3
+    ∷ 0x05 ∷ 0 ∷ 1 ∷ 0
+    ∷ 0x06 ∷ 0 ∷ 1 ∷ 0 ∷ [])
 
 -- ---- a stall in step 5
 -- the reset: the tick that asks controller 3 to stop, its ok, the tick that asks it to start, its ok

@@ -2,6 +2,7 @@ pub mod View
 pub mod Listening
 pub mod BenchCases
 pub mod Demands
+pub mod Across
 pub mod Lives
 pub mod DemandsOneAndTwo
 pub mod WrongBoxes
@@ -12,3 +13,4 @@ pub mod ComesUp
 pub mod Figures
 pub mod SlowBoxes
 pub mod QuietBoxes
+pub mod LeakyBoxes

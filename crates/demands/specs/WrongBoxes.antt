@@ -22,12 +22,12 @@ use Rattle.network_demands.specs.Words.{OnJustThatTick, SaidFrom, LateAfterStal
 use Rattle.demands.specs.View.{keep, unturned, viewsOf}
 use Rattle.demands.specs.Demands.{TickTaken}
 
--- as the bench sheet says it, but for the controllers, the transceiver, partial networking and how bus-offs are held against which threshold: delays
--- 2 and 5, ensure time 3
-abbrev pub networkWith : ℕ → List ℕ → Transceiver → Bool → ℕ → Relation → Network
-networkWith count controllers transceiver partial threshold relation =
+-- as the bench sheet says it, but for the handle, the controllers, the transceiver, partial networking and how bus-offs are held against which
+-- threshold: delays 2 and 5, ensure time 3
+abbrev pub networkNamed : ℕ → ℕ → List ℕ → Transceiver → Bool → ℕ → Relation → Network
+networkNamed handle count controllers transceiver partial threshold relation =
     record {
-      handle = 7;
+      handle = handle;
       count = count;
       controllers = controllers;
       transceiver = transceiver;
@@ -38,6 +38,10 @@ networkWith count controllers transceiver partial threshold relation =
       partial = partial;
       relation = relation;
     }
+
+-- with its handle
+abbrev pub networkWith : ℕ → List ℕ → Transceiver → Bool → ℕ → Relation → Network
+networkWith = networkNamed 7
 
 -- with controller 3, without a transceiver
 abbrev pub network : Network

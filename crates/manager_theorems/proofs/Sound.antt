@@ -1,6 +1,6 @@
 -- What holds of a manager from `new` on, and that a tick changes each network by its own rules only.
-use Rattle.lists.proofs.Basics.{ℕ, zero, suc, _<_, _≤_, arith, eqb-true, eqb-false, _≡_, refl, sym, ap, subst, _∙_, List, [], _∷_, Bool, true, false}
-use Rattle.lists.proofs.Basics.{eqb, ltb, length, getD, set, length-set, length-take, getD-set-same, getD-set-other}
+use Rattle.lists.proofs.Basics.{ℕ, zero, suc, _<_, _≤_, arith, eqb-true, eqb-false, _≡_, refl, sym, subst, _∙_, List, [], _∷_, Bool, true, false}
+use Rattle.lists.proofs.Basics.{eqb, ltb, length, getD, set, length-set, getD-set-same, getD-set-other}
 use Rattle.lists.proofs.Parts.{padded-length}
 use Rattle.settings.specs.declared.Network.{Network}
 use Rattle.settings.specs.Settings.{blankNetwork}
@@ -21,20 +21,12 @@ use Rattle.slots.specs.declared.Outcome.{Outcome}
 use Rattle.slots.specs.Manager.{networksOf, settingsOf, blankState, networkAt, stateAt, withState, withStates, withListening, each, tickNeeds}
 use Rattle.slots.specs.Calls.{Call, tick, newManager, afterReading, gateOf, allTicked, listened, outcome}
 use Rattle.slots.proofs.Each.{length-each}
+use Rattle.slots.proofs.Own.{slot-network, slot-state, each-slot, ticked-own}
 use Rattle.calls.specs.Histories.{ReadsBytes, Reached, at-new, after}
-use Rattle.calls.proofs.ByCall.{slot-network, ByCall, by-call}
+use Rattle.calls.proofs.ByCall.{ByCall, by-call}
 use Rattle.manager_theorems.specs.Careful.{Sound}
 
 -- ---- each network by its own rules
--- what slot i holds after f of each network and its record
-pub each-at : (f : Network → State → State) (ns : List Network) (ss : List State) (i : ℕ) (d : Network) (e : State) →
-    i < length ns → i < length ss → getD (each f ns ss) i e ≡ f (getD ns i d) (getD ss i e)
-unfolding each
-each-at f [] ss i d e h k = absurd (omega arith)
-each-at f (n ∷ ns) [] i d e h k = absurd (omega arith)
-each-at f (n ∷ ns) (s ∷ ss) zero d e h k = refl
-each-at f (n ∷ ns) (s ∷ ss) (suc i) d e h k = each-at f ns ss i d e (omega arith) (omega arith)
-
 each-past : (f : Network → State → State) (ns : List Network) (ss : List State) (i : ℕ) (e : State) →
     length ns ≤ i → getD (each f ns ss) i e ≡ getD ss i e
 unfolding each
@@ -45,21 +37,11 @@ each-past f (n ∷ ns) (s ∷ ss) zero e h = absurd (omega arith)
 each-past f (n ∷ ns) (s ∷ ss) (suc i) e h = each-past f ns ss i e (omega arith)
 
 module _ (m : Manager) where
-  pub slot-state : length (m .networks) ≡ 8 → length (m .states) ≡ 8 → (i : ℕ) → i < length (networksOf m) → i < length (m .states)
-  slot-state e f i h = let t = length-take (m .count) (m .networks) in omega arith
-
-  -- a record that f gives, of the network and the record of its slot
-  pub each-slot : (f : Network → State → State) → length (m .networks) ≡ 8 → length (m .states) ≡ 8 → (i : ℕ) → i < length (networksOf m)
-      → getD (each f (networksOf m) (m .states)) i blankState ≡ f (networkAt m i) (stateAt m i)
-  each-slot f e g i h =
-      each-at f (networksOf m) (m .states) i blankNetwork blankState h (slot-state e g i h)
-      ∙ ap (λ (n : Network). f n (stateAt m i)) (slot-network m i h)
-
   -- T1: an accepted tick gives each network in use the record after its own tick, and leaves the rest
   pub tick-own-rules : Sound m → (room : ℕ) → m .stage ≡ Stage.Started → ltb room (tickNeeds m) ≡ false → (i : ℕ) → i < length (networksOf m)
       → stateAt (outcome m (tick room) .manager) i ≡ tickState (networkAt m i) (stateAt m i)
-  unfolding outcome gateOf allTicked tickState
-  tick-own-rules s room e f i h = rw (f, e) (each-slot tickState (s .networks) (s .states) i h)
+  unfolding outcome gateOf allTicked
+  tick-own-rules s room e f i h = rw (f, e) (ticked-own m (s .networks) (s .states) i h)
 
   pub tick-leaves-rest : (room : ℕ) → m .stage ≡ Stage.Started → ltb room (tickNeeds m) ≡ false → (i : ℕ) → length (networksOf m) ≤ i
       → stateAt (outcome m (tick room) .manager) i ≡ stateAt m i

@@ -1,3 +1,4 @@
 pub mod Laws
 pub mod Each
 pub mod Shares
+pub mod Own

@@ -22,10 +22,12 @@ use Rattle.trace.specs.Trace.{readingOf, firstLine, firstManager, ending, runLi
 use Rattle.demands.specs.Demands.{Begun, Demand3}
 use Rattle.demands.specs.ComesUp.{ComesUp}
 use Rattle.demands.specs.Listening.{Listening, ListensIn}
+use Rattle.demands.specs.Across.{NothingLeaks}
 use Rattle.demands.proofs.Follow.{follow}
 use Rattle.demands.proofs.DemandThree.{demand-3}
 use Rattle.demands.proofs.ComesUp.{comes-up}
 use Rattle.demands.proofs.Listening.{listening-since, listens-in}
+use Rattle.demands.proofs.Across.{nothing-leaks}
 use Rattle.trace_demands.specs.Recorded.{historyLines, historyAfter, managerAfter, eventsOf, Recorded, HasRoom}
 use Rattle.trace_demands.proofs.Room.{events-not-short, events-then-tick}
 
@@ -108,6 +110,10 @@ module _ (s : List ℕ) (bytes : Bytes s) (taken : eqb (answerNumber (readingOf 
 
   pub recorded-listens-in : (i : ℕ) → i < length (networksOf (firstManager s)) → ListensIn (firstManager s) i
   recorded-listens-in i h = listens-in (firstManager s) first-begun i h
+
+  -- and that nothing leaks across
+  pub recorded-nothing-leaks : (i : ℕ) → i < length (networksOf (firstManager s)) → NothingLeaks (firstManager s) i
+  recorded-nothing-leaks i h = nothing-leaks (firstManager s) first-begun i h
 
   -- what its calls are lent is room for any of them
   pub recorded-has-room : HasRoom s
