@@ -93,7 +93,7 @@ now m i = record { state = stateAt m i; listening = m .listening }
 -- what reached the network says where it is, and what it was given
 record Held (n : Network) (m : Manager) (i : ℕ) (h : History) : Type 0 where
   stand : stands n (asked n h) ≡ now m i
-  gifts : Rattle.demands.proofs.Across.gifts n (asked n h) ≡ given n h
+  gift : gifts n (asked n h) ≡ given n h
 
 -- ---- one call on a started manager, and one of its networks
 module _
@@ -206,7 +206,7 @@ module _
         → ((listening : Bool) → switchOf (e .number) c ≡ turns listening → Q (listens listening ∷ []))
         → (viewOf n e .sight ≡ nothing → switchOf (e .number) c ≡ leaves → Q []) → Q (askedBy n e)
     unfolding any
-    by-asked Q own all turned none = by-name (names n c) refl (addressOf (e .number) c) refl (switchOf (e .number) c) refl
+    by-asked Q own all switching none = by-name (names n c) refl (addressOf (e .number) c) refl (switchOf (e .number) c) refl
       where
         unnamed : (id : Id) (sight : Sight) → addressOf (e .number) c ≡ to id sight → names n c ≡ false → has id n ≡ false
         unnamed id sight x f = sym (or-false _) ∙ ap (any (λ (y : Id). has y n)) (sym (address-names (e .number) c id sight x .0)) ∙ f
@@ -217,17 +217,17 @@ module _
         by-name false f (to id sight) p y q =
             none (ap (seenAs n) p ∙ ap (λ (z : Bool). cond z sight nothing) (unnamed id sight p f)) (address-names (e .number) c id sight p .1)
         by-name false f toAll p y q = all p
-        by-name false f toNobody p (turns listening) q = turned listening q
+        by-name false f toNobody p (turns listening) q = switching listening q
         by-name false f toNobody p leaves q = none (ap (seenAs n) p) q
 
   -- ---- what goes to all is accepted, and polls no mode
-  record Shared (c : Call) (o : Outcome) : Type 0 where
+  record Shared (o : Outcome) : Type 0 where
     number : answerNumber (o .answer) ≡ 0
     mode : o .mode ≡ 0
 
   record ToAll (c : Call) (o : Outcome) : Type 0 where
-    ticked : addressOf (answerNumber (o .answer)) c ≡ toAll → Shared c o × (switchOf (answerNumber (o .answer)) c ≡ leaves)
-    turned : (listening : Bool) → switchOf (answerNumber (o .answer)) c ≡ turns listening → Shared c o
+    ticked : addressOf (answerNumber (o .answer)) c ≡ toAll → Shared o × (switchOf (answerNumber (o .answer)) c ≡ leaves)
+    turned : (listening : Bool) → switchOf (answerNumber (o .answer)) c ≡ turns listening → Shared o
 
   -- a call that is neither
   neither : (c : Call) (o : Outcome) → (addressOf (answerNumber (o .answer)) c ≡ toAll → ⊥) → switchOf (answerNumber (o .answer)) c ≡ leaves → ToAll c o
@@ -270,7 +270,7 @@ module _
     reaching x p q = (
       ap (λ (y : Stand). next n y x) (held .stand) ∙ p,
       ap (λ (y : Stand). gives n y x ∷ gifts n (asked n h)) (held .stand) ∙ ap (λ (g : Given). g ∷ gifts n (asked n h)) q
-          ∙ ap (λ (l : List Given). givenBy n (e c) ∷ l) (held .gifts),
+          ∙ ap (λ (l : List Given). givenBy n (e c) ∷ l) (held .gift),
     )
 
     own : names n c ≡ true → Q (itself c ∷ [])
@@ -313,11 +313,11 @@ module _
     unfolding played
     passing p l =
         let state : stateAt after i ≡ s = fits c .1 ∙ ap (λ (x : Sight). played n s x .state) p in
-        (held .stand ∙ (λ j. record { state = sym state j; listening = sym (listens-so c leaves l) j }), held .gifts)
+        (held .stand ∙ (λ j. record { state = sym state j; listening = sym (listens-so c leaves l) j }), held .gift)
 
     goes-on : Held n after i (e c ∷ h)
     unfolding asked given
-    goes-on = let k = by-asked c Q own by-tick turning passing in record { stand = k .0; gifts = k .1 }
+    goes-on = let k = by-asked c Q own by-tick turning passing in record { stand = k .0; gift = k .1 }
 
   -- what does not reach it
   passes : (c : Call) → askedBy n (entryOf m c) ≡ [] → keep (ownRecord n) (handedOut m c) ≡ []
@@ -331,7 +331,7 @@ module _ (m₀ : Manager) (b : Begun m₀) (i : ℕ) (used : i < length (network
   unfolding stands gifts asked given stateOf
   held-since _ _ begun = record {
     stand = λ j. record { state = first-record j; listening = sym (starts-deaf m₀ b) j };
-    gifts = refl;
+    gift = refl;
   }
     where
       first-record : started (networkAt m₀ i) ≡ stateAt m₀ i
@@ -355,7 +355,7 @@ same-alike : (n : Network) (m m′ : Manager) (i j : ℕ) (h h′ : History) →
     → Alike n (stateAt m i) (stateAt m′ j) h h′
 same-alike n m m′ i j h h′ p q e = record {
   record-same = ap (λ (x : Stand). x .state) (sym (p .stand) ∙ ap (stands n) e ∙ q .stand);
-  given-same = sym (p .gifts) ∙ ap (gifts n) e ∙ q .gifts;
+  given-same = sym (p .gift) ∙ ap (gifts n) e ∙ q .gift;
 }
 
 -- ---- calls that name nobody

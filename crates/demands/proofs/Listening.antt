@@ -41,7 +41,7 @@ use Rattle.demands.specs.Demands.{Begun}
 use Rattle.demands.specs.Listening.{onlineAs, lastPdu, leftOut, without, Listening, ListensIn}
 use Rattle.demands.proofs.Apart.{Once}
 use Rattle.demands.proofs.Parts.{own-gathered}
-use Rattle.demands.proofs.Switches.{refused-leaves, call-switches, call-quiet, call-aloud, call-plain, view-plain, handed-turned, call-hushed, entry-hushed}
+use Rattle.demands.proofs.Switches.{refused-leaves, call-switches, call-quiet, call-aloud, view-plain, handed-turned, call-hushed, entry-hushed}
 use Rattle.demands.proofs.Follow.{Tracked, same-network, in-use, once, part, follow, latest, in-range}
 
 -- ---- a call that sets or clears it
@@ -294,20 +294,6 @@ module _ (m₀ : Manager) (b : Begun m₀) where
           (subst (λ (x : Entry). Since m₀ (outcome (withListening m false) c .manager) (x ∷ without h)) (entry-hushed m c e)
           (goes (withListening m false) (without h) c k))
 
-  -- argument 2 takes the place of 0 everywhere, or nowhere
-  everywhere : (m : Manager) (e : Entry) (h : History) → Since m₀ m (e ∷ h) → switchOf (e .number) (e .call) ≡ leaves
-      → e .records ≡ map (turned (listening h)) (map unturned (e .records))
-  everywhere m e h s x =
-      let k = latest m₀ m (e ∷ h) s e h refl in
-      subst (λ (y : Entry). switchOf (y .number) (y .call) ≡ leaves → y .records ≡ map (turned (listening h)) (map unturned (y .records))) (k .entry)
-      (λ q. on-call (k .on) (k .call) (shared (k .on) h (k .since)) q) x
-    where
-      on-call : (w : Manager) (c : Call) → w .listening ≡ listening h → switchOf (entryOf w c .number) c ≡ leaves
-          → handedOut w c ≡ map (turned (listening h)) (map unturned (handedOut w c))
-      on-call w c l q =
-          let after : outcome w c .manager .listening ≡ listening h = call-switches w c ∙ ap (λ (z : Switch). switched z (w .listening)) q ∙ l in
-          handed-turned w c (listening h) after ∙ ap (map (turned (listening h))) (sym (call-plain w c))
-
   pub listening-since : Listening m₀
   listening-since = record {
     shared = shared;
@@ -318,7 +304,6 @@ module _ (m₀ : Manager) (b : Begun m₀) where
         subst (λ (y : Entry). switchOf (y .number) (y .call) ≡ turns to → listening h ≡ to → y .records ≡ []) (k .entry)
         (λ x l. turn-again (k .on) (follow m₀ (k .on) h b (k .since) .started) (k .call) to x (shared (k .on) h (k .since) ∙ l));
     nothing-else = nothing-else;
-    everywhere = everywhere;
   }
 
 -- ---- one network

@@ -5,7 +5,7 @@ use mathlib.Core.Path.{_≡_}
 use mathlib.Core.List.{[], _∷_, map}
 use mathlib.Core.Bool.{Bool, true, false, not, cond}
 use Rattle.lists.specs.Lists.{any}
-use Rattle.records.specs.Records.{handed, isOnline, turned}
+use Rattle.records.specs.Records.{handed, isOnline}
 use Rattle.settings.specs.declared.Network.{Network}
 use Rattle.settings.specs.Settings.{controllersOf, member}
 use Rattle.steps.specs.Steps.{stepNumber}
@@ -48,10 +48,6 @@ Quiet e h = listening (e ∷ h) ≡ true → any isOnline (e .records) ≡ false
 abbrev pub Aloud : Entry → History → Type 0
 Aloud e h = listening (e ∷ h) ≡ false → any isTurned (e .records) ≡ false
 
--- L2: in a call that leaves it as it was, argument 2 is in the place of 0 everywhere while the manager listens, and nowhere while it does not
-abbrev pub Everywhere : Entry → History → Type 0
-Everywhere e h = switchOf (e .number) (e .call) ≡ leaves → e .records ≡ map (turned (listening h)) (map unturned (e .records))
-
 -- L6: where full is told or the network is held, each controller was last handed online if the manager does not listen, and argument 2 if it does
 abbrev pub LastHeard : Network → History → Type 0
 LastHeard n h =
@@ -77,7 +73,6 @@ pub record Listening (m₀ : Manager) : Type 0 where
   -- L4: nothing else changes: the same calls with those left out that set or clear it lead to the same manager, but for listening itself, with the
   -- same answers and modes, and with the same records, but for argument 2 in the place of 0 in kind 3
   pub nothing-else : (m : Manager) (h : History) → Since m₀ m h → Since m₀ (withListening m false) (without h)
-  pub everywhere : (m : Manager) (e : Entry) (h : History) → Since m₀ m (e ∷ h) → Everywhere e h
 
 -- ---- for one network, by its slot
 pub record ListensIn (m₀ : Manager) (i : ℕ) : Type 0 where
