@@ -14,7 +14,7 @@ import sys
 FILES = sorted(glob.glob("crates/*/specs/**/*.antt", recursive=True) + glob.glob("crates/*/proofs/**/*.antt", recursive=True))
 TOKEN = re.compile(r"[^\s(){}\[\].,;«»\"`]+")
 TOP = re.compile(r"^(?:(?:abbrev|unfoldable|pub|opaque)\s+)*(?:(?:record|data|ruleset)\s+)?([^\s(){}:=.]+)\s*(?:[({:=]|where)")
-MEMBER = re.compile(r"^\s+(?:\|\s*)?(?:pub\s+)?([^\s(){}:=.,]+)\s*:\s")
+MEMBER = re.compile(r"^\s+(?:\|\s*)?(?:(?:abbrev|unfoldable|pub)\s+)*([^\s(){}:=.,]+)\s*:\s")
 NOT_NAMES = {"use", "mod", "pub", "unfolding", "open", "abbrev", "unfoldable", "record", "data", "let", "where", "syntax"}
 # Names that would fall together with another one in a file, and the name that each gets.
 BY_HAND = {"atRest": "is_at_rest", "outOfRange": "out_of_range_part"}
@@ -58,7 +58,7 @@ def defined():
                     ours.setdefault(m.group(1), set()).add(f)
                 if re.match(r"(pub )?(abbrev )?(pub )?(record|data)\b", line):
                     inside = True
-            elif inside:
+            else:
                 m = MEMBER.match(line)
                 if m and m.group(1) not in NOT_NAMES:
                     ours.setdefault(m.group(1), set()).add(f)

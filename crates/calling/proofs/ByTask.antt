@@ -14,21 +14,21 @@ module _ (m : Manager) (bytes before : List ℕ) (P : Call → List ℕ → Type
     (records : (c : Call) → counts_records c ≡ true → P c (buffer_with before (handed_out m c)))
     (reads : P (read bytes) before)
     (writes : P (write (length before)) (written_into m before)) where
-  pub by-task : (task : Task) → P (call_of task bytes before) (lent_after m (call_of task bytes before) before)
+  pub by_task : (task : Task) → P (call_of task bytes before) (lent_after m (call_of task bytes before) before)
   unfolding by_rules handed_out buffer_with bytes_of
-  by-task Task.Read = reads
-  by-task Task.Write = writes
-  by-task Task.Start = records start refl
-  by-task (Task.Request handle mode) = records (request handle mode) refl
-  by-task (Task.Poll handle) = records (poll handle) refl
-  by-task (Task.BusOff controller) = records (bus_off controller (length before)) refl
-  by-task (Task.Stall handle) = records (stall handle (length before)) refl
-  by-task (Task.Answer controller mode ok) = records (answer controller mode ok) refl
-  by-task (Task.TransceiverMode transceiver mode) = records (transceiver_mode transceiver mode) refl
-  by-task (Task.ClearDone transceiver) = records (clear_done transceiver) refl
-  by-task (Task.CheckDone transceiver) = records (check_done transceiver) refl
-  by-task Task.Tick = records (tick (length before)) refl
-  by-task (Task.Listen value) = records (listen value (length before)) refl
+  by_task Task.Read = reads
+  by_task Task.Write = writes
+  by_task Task.Start = records start refl
+  by_task (Task.Request handle mode) = records (request handle mode) refl
+  by_task (Task.Poll handle) = records (poll handle) refl
+  by_task (Task.BusOff controller) = records (bus_off controller (length before)) refl
+  by_task (Task.Stall handle) = records (stall handle (length before)) refl
+  by_task (Task.Answer controller mode ok) = records (answer controller mode ok) refl
+  by_task (Task.TransceiverMode transceiver mode) = records (transceiver_mode transceiver mode) refl
+  by_task (Task.ClearDone transceiver) = records (clear_done transceiver) refl
+  by_task (Task.CheckDone transceiver) = records (check_done transceiver) refl
+  by_task Task.Tick = records (tick (length before)) refl
+  by_task (Task.Listen value) = records (listen value (length before)) refl
 
 -- a task that is the call
 pub record Made (c : Call) : Type 0 where

@@ -15,7 +15,7 @@ use Rattle.calls.proofs.Counts.{handed_back}
 use Rattle.calling.specs.declared.Task.{Task}
 use Rattle.calling.specs.Returned.{New, call_of, lent_after, Returned}
 use Rattle.calling.specs.Lived.{noted, Lived, begins, makes, ReadsOnlyBytes}
-use Rattle.calling.proofs.ByTask.{by-task, made}
+use Rattle.calling.proofs.ByTask.{by_task, made}
 
 -- ---- what is noted
 -- the records that a caller finds in the buffer are those that the call hands out
@@ -23,7 +23,7 @@ records_noted : (m : Manager) (task : Task) (bytes before : List ℕ) (r : Outco
     → cond (counts_records (call_of task bytes before)) (records_at r.count after) [] ≡ handed_out m (call_of task bytes before)
 unfolding by_rules handed_out
 records_noted m task bytes before r after g =
-    by-task m bytes before (λ c left. r ≡ outcome m c → after ≡ left → cond (counts_records c) (records_at r.count after) [] ≡ handed_out m c)
+    by_task m bytes before (λ c left. r ≡ outcome m c → after ≡ left → cond (counts_records c) (records_at r.count after) [] ≡ handed_out m c)
     (λ c e p q. ap (λ (b : Bool). cond b (records_at r.count after) []) e ∙ handed_back m c before r after e (record { result = p; buffer = q }))
     (λ p q. refl) (λ p q. refl) task g.result g.buffer
 
@@ -50,7 +50,7 @@ lived_since m₀ _ _ (makes m h task bytes before r after l g) =
 -- a reading reads the bytes beside its task
 read_bytes : (m : Manager) (task : Task) (bytes before : List ℕ) → Bytes bytes → (b : List ℕ) → call_of task bytes before ≡ read b → Bytes b
 read_bytes m task bytes before w =
-    by-task m bytes before (λ c left. (b : List ℕ) → c ≡ read b → Bytes b) (λ c e b q. absurd (true≢false (sym e ∙ ap counts_records q)))
+    by_task m bytes before (λ c left. (b : List ℕ) → c ≡ read b → Bytes b) (λ c e b q. absurd (true≢false (sym e ∙ ap counts_records q)))
     (λ b q. let same : bytes ≡ b = cc in subst Bytes same w) (λ b q. absurd (let z : ◌≡◌ {A = ℕ} 0 1 = cc in omega arith)) task
 
 -- whatever it read were bytes
@@ -131,15 +131,15 @@ number_accepted Answer.NoController e = absurd (omega (arith, e))
 number_accepted Answer.NoTransceiver e = absurd (omega (arith, e))
 number_accepted Answer.OutOfRange e = absurd (omega (arith, e))
 number_accepted (Answer.Network refusal) e = absurd (false≢true (sym (refusal_refuses refusal) ∙ ap (eqb 0) e))
-number_accepted (Answer.Sheet fault) e = absurd (omega (arith, fault-number fault, e))
+number_accepted (Answer.Sheet fault) e = absurd (omega (arith, fault_number_lem fault, e))
   where
-    fault-number : (f : Fault) → 0x30 ≤ answer_number (Answer.Sheet f)
-    fault-number Fault.Cut = omega arith
-    fault-number Fault.UnknownTag = omega arith
-    fault-number Fault.WrongLength = omega arith
-    fault-number Fault.OutOfOrder = omega arith
-    fault-number Fault.OutOfRange = omega arith
-    fault-number Fault.UsedBefore = omega arith
-    fault-number Fault.TooMany = omega arith
-    fault-number Fault.NoTransceiver = omega arith
-    fault-number Fault.Empty = omega arith
+    fault_number_lem : (f : Fault) → 0x30 ≤ answer_number (Answer.Sheet f)
+    fault_number_lem Fault.Cut = omega arith
+    fault_number_lem Fault.UnknownTag = omega arith
+    fault_number_lem Fault.WrongLength = omega arith
+    fault_number_lem Fault.OutOfOrder = omega arith
+    fault_number_lem Fault.OutOfRange = omega arith
+    fault_number_lem Fault.UsedBefore = omega arith
+    fault_number_lem Fault.TooMany = omega arith
+    fault_number_lem Fault.NoTransceiver = omega arith
+    fault_number_lem Fault.Empty = omega arith

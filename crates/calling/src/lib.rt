@@ -1,5 +1,7 @@
 // Every public call of the manager, made by one caller. What its contract says is all that the promises of the calls give to code that makes them:
 // the theorems about what calls returned begin here, so a call that promised less would be refused here.
+#![tactic(auto)]
+
 ghost use Rattle.std.specs.Prelude.{◌≡◌};
 ghost use Rattle.slots.specs.Manager.{answer_number};
 ghost use Rattle.calling.specs.Returned.{New, Returned};
@@ -7,7 +9,7 @@ ghost use Rattle.calling.specs.Returned.{New, Returned};
 use manager::{Manager, Outcome};
 
 // A call with its numbers. What a reading reads and what a call is lent stand beside it.
-#[derive(Drop)]
+#[derive(Clone, Copy)]
 pub enum Task {
     Read,
     Write,

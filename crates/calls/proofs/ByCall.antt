@@ -24,7 +24,7 @@ use Rattle.network.specs.Replies.{reply_number, is_taken}
 use Rattle.network.specs.Moving.{tick_records}
 use Rattle.network.specs.Parts.{Sight, an_answer, a_request, a_report, nothing, sight_of, out_of_range_part, report_part, hit_part, part_of, records_of}
 use Rattle.lists.proofs.Tests.{split}
-use Rattle.network_theorems.proofs.Parts.{by-request, by-report, by_answer, refused_stays}
+use Rattle.network_theorems.proofs.Parts.{by_request, by_report, by_answer, refused_stays}
 use Rattle.slots.specs.declared.Stage.{Stage}
 use Rattle.slots.specs.declared.Gate.{Gate}
 use Rattle.slots.specs.declared.Slot.{Slot}
@@ -35,7 +35,7 @@ use Rattle.slots.specs.Manager.{answer_number, networks_of, settings_of, network
 use Rattle.slots.specs.Calls.{Call, read, write, start, request, poll, bus_off, stall, answer, transceiver_mode, clear_done, check_done, tick, listen, by_stage}
 use Rattle.slots.specs.Calls.{after_reading, read_into, writing_of, started_from, unknown, slot_at, slot_of, by_slot, answer_of, slot_outcome}
 use Rattle.slots.specs.Calls.{named, slot_records, polled, gate_of, by_gate, gate_records, trouble_needs, all_ticked, online_anew, listened, outcome, by_rules}
-use Rattle.slots.proofs.Own.{slot-takes, slot-declines, slot_network}
+use Rattle.slots.proofs.Own.{slot_takes, slot_declines, slot_network}
 use Rattle.lent_calls.proofs.Ticks.{hit_fits, trouble_part, trouble_records}
 use Rattle.calls.specs.Histories.{is_accepted, to, to_nobody, address_of, seen_as, refusals_of, room_of}
 
@@ -44,13 +44,13 @@ use Rattle.calls.specs.Histories.{is_accepted, to, to_nobody, address_of, seen_a
 none_has : (id : Id) (l : List Network) (i : ℕ) (d : Network) → any (has id) l ≡ false → i < length l → has id (get_or l i d) ≡ false
 unfolding any
 none_has id [] i d e h = absurd (omega arith)
-none_has id (n ∷ l) i d e h = by-test (has id n) refl e i h (λ j f k. none_has id l j d f k)
+none_has id (n ∷ l) i d e h = by_test (has id n) refl e i h (λ j f k. none_has id l j d f k)
   where
-    by-test : (b : Bool) → has id n ≡ b → b || any (has id) l ≡ false → (i : ℕ) → i < suc (length l)
+    by_test : (b : Bool) → has id n ≡ b → b || any (has id) l ≡ false → (i : ℕ) → i < suc (length l)
         → ((j : ℕ) → any (has id) l ≡ false → j < length l → has id (get_or l j d) ≡ false) → has id (get_or (n ∷ l) i d) ≡ false
-    by-test true p f i h later = absurd (true≢false f)
-    by-test false p f zero h later = p
-    by-test false p f (suc i) h later = later i f (omega arith)
+    by_test true p f i h later = absurd (true≢false f)
+    by_test false p f zero h later = p
+    by_test false p f (suc i) h later = later i f (omega arith)
 
 -- the slot of the network that has an id: it is in use, and its network has the id
 pub record Found (m : Manager) (id : Id) (i : ℕ) : Type 0 where
@@ -63,10 +63,10 @@ module _ (m : Manager) (id : Id) (Q : Slot → Type 0)
     (unready : (m.stage ≡ Stage.Started → ⊥) → Q (Slot.Refused Answer.NotReady))
     (nobody : ((i : ℕ) → i < length (networks_of m) → has id (network_at m i) ≡ false) → Q (Slot.Refused (unknown id)))
     (found : (i : ℕ) → Found m id i → Q (Slot.At i)) where
-  by-holder : (b : Bool) → any (has id) (networks_of m) ≡ b → m.stage ≡ Stage.Started
+  by_holder : (b : Bool) → any (has id) (networks_of m) ≡ b → m.stage ≡ Stage.Started
       → slot_of m id ≡ slot_at id (cond b (Holder.At (first (has id) (networks_of m))) Holder.Nobody)
       → Q (slot_at id (cond b (Holder.At (first (has id) (networks_of m))) Holder.Nobody))
-  by-holder true e s f =
+  by_holder true e s f =
       let i = first (has id) (networks_of m) in
       let used : i < length (networks_of m) = first_below (has id) (networks_of m) e in
       found i (record {
@@ -75,20 +75,20 @@ module _ (m : Manager) (id : Id) (Q : Slot → Type 0)
         used = used;
         has = subst (λ (n : Network). has id n ≡ true) (slot_network m i used) (first_passes (has id) (networks_of m) blank_network e);
       })
-  by-holder false e s f =
+  by_holder false e s f =
       nobody (λ i h. subst (λ (n : Network). has id n ≡ false) (slot_network m i h) (none_has id (networks_of m) i blank_network e h))
 
-  by-stage : (g : Stage) →
+  by_stage_lem : (g : Stage) →
       m.stage ≡ g → Q (by_stage g (Slot.Refused Answer.NotReady) (Slot.Refused Answer.NotReady) (slot_at id (holder_of id (networks_of m))))
   unfolding slot_of holder_of
-  by-stage Stage.Empty e = unready (λ f. let z : ◌≡◌ {A = ℕ} 0 1 = cc in omega arith)
-  by-stage Stage.Loaded e = unready (λ f. let z : ◌≡◌ {A = ℕ} 0 1 = cc in omega arith)
-  by-stage Stage.Started e = by-holder (any (has id) (networks_of m)) refl e (rw e refl)
+  by_stage_lem Stage.Empty e = unready (λ f. let z : ◌≡◌ {A = ℕ} 0 1 = cc in omega arith)
+  by_stage_lem Stage.Loaded e = unready (λ f. let z : ◌≡◌ {A = ℕ} 0 1 = cc in omega arith)
+  by_stage_lem Stage.Started e = by_holder (any (has id) (networks_of m)) refl e (rw e refl)
 
   -- before the start no slot is found; after it nobody has the id, or the first network that has it is found
-  pub by-slot : Q (slot_of m id)
+  pub by_slot_lem : Q (slot_of m id)
   unfolding slot_of
-  by-slot = by-stage m.stage refl
+  by_slot_lem = by_stage_lem m.stage refl
 
 -- ---- the cases
 -- a refusal that can be the answer to the call
@@ -146,41 +146,41 @@ module _ (m : Manager) (P : Call → Outcome → List Record → Type 0) (by : B
 
   at_slot : (c : Call) (id : Id) (sight : Sight) → Refusals c id sight → (i : ℕ) → Found m id i
       → P c (slot_outcome m i sight) (records_of (network_at m i) (state_at m i) sight)
-  at_slot c id sight r i f = by-reply (is_taken (part_of (network_at m i) (state_at m i) sight).reply) refl
+  at_slot c id sight r i f = by_reply_lem (is_taken (part_of (network_at m i) (state_at m i) sight).reply) refl
     where
-      by-reply : (taken : Bool) → is_taken (part_of (network_at m i) (state_at m i) sight).reply ≡ taken
+      by_reply_lem : (taken : Bool) → is_taken (part_of (network_at m i) (state_at m i) sight).reply ≡ taken
           → P c (slot_outcome m i sight) (records_of (network_at m i) (state_at m i) sight)
-      by-reply true e =
-          subst (λ (o : Outcome). P c o (records_of (network_at m i) (state_at m i) sight)) (sym (slot-takes m i sight e))
+      by_reply_lem true e =
+          subst (λ (o : Outcome). P c o (records_of (network_at m i) (state_at m i) sight)) (sym (slot_takes m i sight e))
           (by.takes c id sight i (r.names 0) f e (r.fits i))
-      by-reply false e =
-          subst (λ (o : Outcome). P c o (records_of (network_at m i) (state_at m i) sight)) (sym (slot-declines m i sight e))
+      by_reply_lem false e =
+          subst (λ (o : Outcome). P c o (records_of (network_at m i) (state_at m i) sight)) (sym (slot_declines m i sight e))
           (subst (P c (refused m (answer_of (part_of (network_at m i) (state_at m i) sight).reply)))
           (sym (refused_stays (network_at m i) (state_at m i) sight e).1) (by.declines c id sight i _ (r.names _) f
           (record { refused = e; answer = refl }) (r.declined i e)))
 
-  by-named : (c : Call) (id : Id) (sight : Sight) → Refusals c id sight → P c (named m id sight) (slot_records m (slot_of m id) sight)
+  by_named_lem : (c : Call) (id : Id) (sight : Sight) → Refusals c id sight → P c (named m id sight) (slot_records m (slot_of m id) sight)
   unfolding named
-  by-named c id sight r =
-      by-slot m id (λ slot. P c (by_slot m slot (λ i. slot_outcome m i sight)) (slot_records m slot sight))
+  by_named_lem c id sight r =
+      by_slot_lem m id (λ slot. P c (by_slot m slot (λ i. slot_outcome m i sight)) (slot_records m slot sight))
       (λ f. by.refuses c Answer.NotReady r.unready (λ s. absurd (f s))) (λ f. by.refuses c (unknown id)
       r.nobody (λ s i h. ap (seen_as (network_at m i)) (r.names _) ∙ ap (λ (b : Bool). cond b sight nothing) (f i h))) (at_slot c id sight r)
 
   -- it hands out nothing, whatever the slot
   quiet : (c : Call) (id : Id) (sight : Sight) →
       Refusals c id sight → ((i : ℕ) → records_of (network_at m i) (state_at m i) sight ≡ []) → P c (named m id sight) []
-  quiet c id sight r e = subst (P c (named m id sight)) (none (slot_of m id)) (by-named c id sight r)
+  quiet c id sight r e = subst (P c (named m id sight)) (none (slot_of m id)) (by_named_lem c id sight r)
     where
       none : (slot : Slot) → slot_records m slot sight ≡ []
       none (Slot.Refused a) = refl
       none (Slot.At i) = e i
 
   -- ---- a call that is lent a buffer for records
-  by-gate : (c : Call) (room needs : ℕ) (o : Outcome) (rs : List Record) →
+  by_gate_lem : (c : Call) (room needs : ℕ) (o : Outcome) (rs : List Record) →
       CanRefuse c Answer.NotReady → CanRefuse c Answer.TooShort → (ltb room needs ≡ true → (n : Network) → seen_as n (address_of 0x20 c) ≡ nothing) →
       (m.stage ≡ Stage.Started → ltb room needs ≡ false → P c o rs) → P c (by_gate m (gate_of m room needs) o) (gate_records (gate_of m room needs) rs)
   unfolding gate_of
-  by-gate c room needs o rs unready short unseen p = at_stage m.stage refl
+  by_gate_lem c room needs o rs unready short unseen p = at_stage m.stage refl
     where
       Through : Gate → Type 0
       Through gate = P c (by_gate m gate o) (gate_records gate rs)
@@ -196,37 +196,37 @@ module _ (m : Manager) (P : Call → Outcome → List Record → Type 0) (by : B
           (λ t. by.refuses c Answer.TooShort short (λ _ i h. unseen t (network_at m i))) (λ t. p e t)
 
   -- ---- the sheet and the start
-  by-reading : (bytes : List ℕ) → (m.stage ≡ Stage.Started → ⊥) → P (read bytes) (read_into m bytes) []
+  by_reading_lem : (bytes : List ℕ) → (m.stage ≡ Stage.Started → ⊥) → P (read bytes) (read_into m bytes) []
   unfolding read_into
-  by-reading bytes f = by-answer-of (decode bytes).answer refl
+  by_reading_lem bytes f = by_answer_of (decode bytes).answer refl
     where
-      by-answer-of : (a : Verdict) → (decode bytes).answer ≡ a → P (read bytes) (after_reading m (decode bytes) a) []
-      by-answer-of Verdict.Accepted e = by.reads bytes f e
-      by-answer-of (Verdict.Refused fault) e = by.misreads bytes fault f
+      by_answer_of : (a : Verdict) → (decode bytes).answer ≡ a → P (read bytes) (after_reading m (decode bytes) a) []
+      by_answer_of Verdict.Accepted e = by.reads bytes f e
+      by_answer_of (Verdict.Refused fault) e = by.misreads bytes fault f
 
   by_read : (bytes : List ℕ) (g : Stage) →
       m.stage ≡ g → P (read bytes) (by_stage g (read_into m bytes) (read_into m bytes) (refused m Answer.Running)) []
   unfolding any
-  by_read bytes Stage.Empty e = by-reading bytes (λ f. let z : ◌≡◌ {A = ℕ} 0 1 = cc in omega arith)
-  by_read bytes Stage.Loaded e = by-reading bytes (λ f. let z : ◌≡◌ {A = ℕ} 0 1 = cc in omega arith)
+  by_read bytes Stage.Empty e = by_reading_lem bytes (λ f. let z : ◌≡◌ {A = ℕ} 0 1 = cc in omega arith)
+  by_read bytes Stage.Loaded e = by_reading_lem bytes (λ f. let z : ◌≡◌ {A = ℕ} 0 1 = cc in omega arith)
   by_read bytes Stage.Started e = by.refuses (read bytes) Answer.Running (record { refused = refl; among = refl }) (λ s i h. refl)
 
-  by-writing : (room : ℕ) → (m.stage ≡ Stage.Empty → ⊥) → P (write room) (writing_of m room) []
+  by_writing : (room : ℕ) → (m.stage ≡ Stage.Empty → ⊥) → P (write room) (writing_of m room) []
   unfolding writing_of any
-  by-writing room f = split (λ (o : Outcome). P (write room) o []) (leb (length (encode (settings_of m))) room) (λ e. by.writes room f)
+  by_writing room f = split (λ (o : Outcome). P (write room) o []) (leb (length (encode (settings_of m))) room) (λ e. by.writes room f)
       (λ e. by.refuses (write room) Answer.TooShort (record { refused = refl; among = refl }) (λ s i h. refl))
 
-  by-write : (room : ℕ) (g : Stage) → m.stage ≡ g → P (write room) (by_stage g (refused m Answer.NotReady) (writing_of m room) (writing_of m room)) []
+  by_write : (room : ℕ) (g : Stage) → m.stage ≡ g → P (write room) (by_stage g (refused m Answer.NotReady) (writing_of m room) (writing_of m room)) []
   unfolding any
-  by-write room Stage.Empty e = by.refuses (write room) Answer.NotReady (record { refused = refl; among = refl }) (λ s i h. refl)
-  by-write room Stage.Loaded e = by-writing room (λ f. let z : ◌≡◌ {A = ℕ} 0 1 = cc in omega arith)
-  by-write room Stage.Started e = by-writing room (λ f. let z : ◌≡◌ {A = ℕ} 0 1 = cc in omega arith)
+  by_write room Stage.Empty e = by.refuses (write room) Answer.NotReady (record { refused = refl; among = refl }) (λ s i h. refl)
+  by_write room Stage.Loaded e = by_writing room (λ f. let z : ◌≡◌ {A = ℕ} 0 1 = cc in omega arith)
+  by_write room Stage.Started e = by_writing room (λ f. let z : ◌≡◌ {A = ℕ} 0 1 = cc in omega arith)
 
-  by-start : (g : Stage) → m.stage ≡ g → P start (by_stage g (refused m Answer.NotReady) (accepted (started_from m) 0) (refused m Answer.Running)) []
+  by_start : (g : Stage) → m.stage ≡ g → P start (by_stage g (refused m Answer.NotReady) (accepted (started_from m) 0) (refused m Answer.Running)) []
   unfolding any
-  by-start Stage.Empty e = by.refuses start Answer.NotReady (record { refused = refl; among = refl }) (λ s i h. refl)
-  by-start Stage.Loaded e = by.starts e
-  by-start Stage.Started e = by.refuses start Answer.Running (record { refused = refl; among = refl }) (λ s i h. refl)
+  by_start Stage.Empty e = by.refuses start Answer.NotReady (record { refused = refl; among = refl }) (λ s i h. refl)
+  by_start Stage.Loaded e = by.starts e
+  by_start Stage.Started e = by.refuses start Answer.Running (record { refused = refl; among = refl }) (λ s i h. refl)
 
   -- ---- the replies of a network
   -- 21, for what is out of range
@@ -240,29 +240,29 @@ module _ (m : Manager) (P : Call → Outcome → List Record → Type 0) (by : B
   abbrev Declined : Call → Part → Type 0
   Declined c part = is_taken part.reply ≡ false → CanRefuse c (answer_of part.reply)
 
-  request-declined : (handle mode i : ℕ) → Declined (request handle mode) (part_of (network_at m i) (state_at m i) (a_request mode))
+  request_declined : (handle mode i : ℕ) → Declined (request handle mode) (part_of (network_at m i) (state_at m i) (a_request mode))
   unfolding part_of any
-  request-declined handle mode i = by-request (state_at m i) (Declined (request handle mode)) mode (λ _ _ _ e. absurd (true≢false e))
+  request_declined handle mode i = by_request (state_at m i) (Declined (request handle mode)) mode (λ _ _ _ e. absurd (true≢false e))
       (λ _. record { refused = refl; among = refl }) (λ _. record { refused = refl; among = refl })
       (λ _. record { refused = refl; among = refl }) (λ _. record { refused = refl; among = refl })
 
-  answer-declined : (c mode ok i : ℕ) → Declined (answer c mode ok) (part_of (network_at m i) (state_at m i) (an_answer c mode ok))
+  answer_declined : (c mode ok i : ℕ) → Declined (answer c mode ok) (part_of (network_at m i) (state_at m i) (an_answer c mode ok))
   unfolding part_of any
-  answer-declined c mode ok i =
+  answer_declined c mode ok i =
       by_answer (state_at m i) (Declined (answer c mode ok)) (network_at m i) c mode ok (λ _ _ e. absurd (true≢false e)) (λ _
       _. record { refused = refl; among = refl }) (λ _ _. record { refused = refl; among = refl }) (λ _ _. record { refused = refl; among = refl })
 
-  report-declined : (c : Call) (report : Report) → (out_of_range_part report ≡ true → CanRefuse c outside) → CanRefuse c untaken → (i : ℕ)
+  report_declined : (c : Call) (report : Report) → (out_of_range_part report ≡ true → CanRefuse c outside) → CanRefuse c untaken → (i : ℕ)
       → Declined c (part_of (network_at m i) (state_at m i) (a_report report))
   unfolding part_of report_part
-  report-declined c report out not i = by-report (state_at m i) (Declined c) report _ (λ _ e. absurd (true≢false e)) (λ e _. out e) (λ _ _. not)
+  report_declined c report out not i = by_report (state_at m i) (Declined c) report _ (λ _ e. absurd (true≢false e)) (λ e _. out e) (λ _ _. not)
 
-  hit-declined : (c : Call) (s : State) → CanRefuse c untaken → (hit : Hit) → Declined c (hit_part s hit)
+  hit_declined : (c : Call) (s : State) → CanRefuse c untaken → (hit : Hit) → Declined c (hit_part s hit)
   unfolding hit_part
-  hit-declined c s not Hit.Recover e = absurd (true≢false e)
-  hit-declined c s not Hit.Restart e = absurd (true≢false e)
-  hit-declined c s not Hit.Reset e = absurd (true≢false e)
-  hit-declined c s not Hit.NotTaken e = not
+  hit_declined c s not Hit.Recover e = absurd (true≢false e)
+  hit_declined c s not Hit.Restart e = absurd (true≢false e)
+  hit_declined c s not Hit.Reset e = absurd (true≢false e)
+  hit_declined c s not Hit.NotTaken e = not
 
   -- ---- a call by which trouble is reported: it names an id, and is lent a buffer
   record Reports (c : Call) (room : ℕ) (id : Id) (trouble : Trouble) : Type 0 where
@@ -274,16 +274,16 @@ module _ (m : Manager) (P : Call → Outcome → List Record → Type 0) (by : B
     nobody : CanRefuse c (unknown id)
     not : CanRefuse c untaken
 
-  by-trouble : (c : Call) (room : ℕ) (id : Id) (trouble : Trouble) → Reports c room id trouble
+  by_trouble : (c : Call) (room : ℕ) (id : Id) (trouble : Trouble) → Reports c room id trouble
       → P c (by_gate m (gate_of m room (trouble_needs trouble)) (named m id (sight_of trouble)))
       (gate_records (gate_of m room (trouble_needs trouble)) (slot_records m (slot_of m id) (sight_of trouble)))
-  by-trouble c room id trouble r =
-      by-gate c room (trouble_needs trouble) _ _ r.unready r.short (λ e n. ap (seen_as n) (r.names 0x20) ∙ rw e refl)
-      (λ s e. by-named c id (sight_of trouble) (record {
+  by_trouble c room id trouble r =
+      by_gate_lem c room (trouble_needs trouble) _ _ r.unready r.short (λ e n. ap (seen_as n) (r.names 0x20) ∙ rw e refl)
+      (λ s e. by_named_lem c id (sight_of trouble) (record {
         names = λ number. r.names number ∙ rw e refl;
         unready = r.unready;
         nobody = r.nobody;
-        declined = λ i. subst (Declined c) (trouble_part (network_at m i) (state_at m i) trouble) (hit-declined c (state_at m i) r.not _);
+        declined = λ i. subst (Declined c) (trouble_part (network_at m i) (state_at m i) trouble) (hit_declined c (state_at m i) r.not _);
         fits = λ i. fits e (network_at m i) (state_at m i);
       }))
     where
@@ -298,22 +298,22 @@ module _ (m : Manager) (P : Call → Outcome → List Record → Type 0) (by : B
   pub by_call : (c : Call) → P c (outcome m c) (by_rules m c)
   unfolding outcome by_rules records_of any
   by_call (read bytes) = by_read bytes m.stage refl
-  by_call (write room) = by-write room m.stage refl
-  by_call start = by-start m.stage refl
+  by_call (write room) = by_write room m.stage refl
+  by_call start = by_start m.stage refl
   by_call (request handle mode) = quiet (request handle mode) (Id.OfNetwork handle) (a_request mode)
       (record {
         names = λ number. refl;
         unready = record { refused = refl; among = refl };
         nobody = record { refused = refl; among = refl };
-        declined = request-declined handle mode;
+        declined = request_declined handle mode;
         fits = λ i. omega arith;
       })
       (λ i. refl)
-  by_call (poll handle) = by-slot m (Id.OfNetwork handle) (λ slot. P (poll handle) (by_slot m slot (λ i. polled m (state_at m i).told)) [])
+  by_call (poll handle) = by_slot_lem m (Id.OfNetwork handle) (λ slot. P (poll handle) (by_slot m slot (λ i. polled m (state_at m i).told)) [])
       (λ f. by.refuses (poll handle) Answer.NotReady (record { refused = refl; among = refl }) (λ s i h. refl))
       (λ f. by.refuses (poll handle) Answer.NoHandle (record { refused = refl; among = refl }) (λ s i h. refl))
       (λ i f. by.polls handle i f)
-  by_call (bus_off c room) = by-trouble (bus_off c room) room (Id.OfController c) Trouble.BusOff (record {
+  by_call (bus_off c room) = by_trouble (bus_off c room) room (Id.OfController c) Trouble.BusOff (record {
     names = λ number. refl;
     lent = refl;
     unready = record { refused = refl; among = refl };
@@ -321,7 +321,7 @@ module _ (m : Manager) (P : Call → Outcome → List Record → Type 0) (by : B
     nobody = record { refused = refl; among = refl };
     not = record { refused = refl; among = refl };
   })
-  by_call (stall handle room) = by-trouble (stall handle room) room (Id.OfNetwork handle) Trouble.Stall (record {
+  by_call (stall handle room) = by_trouble (stall handle room) room (Id.OfNetwork handle) Trouble.Stall (record {
     names = λ number. refl;
     lent = refl;
     unready = record { refused = refl; among = refl };
@@ -334,7 +334,7 @@ module _ (m : Manager) (P : Call → Outcome → List Record → Type 0) (by : B
         names = λ number. refl;
         unready = record { refused = refl; among = refl };
         nobody = record { refused = refl; among = refl };
-        declined = answer-declined c mode ok;
+        declined = answer_declined c mode ok;
         fits = λ i. omega arith;
       })
       (λ i. refl)
@@ -343,7 +343,7 @@ module _ (m : Manager) (P : Call → Outcome → List Record → Type 0) (by : B
         names = λ number. refl;
         unready = record { refused = refl; among = refl };
         nobody = record { refused = refl; among = refl };
-        declined = report-declined (transceiver_mode t mode)
+        declined = report_declined (transceiver_mode t mode)
             (Report.Transceiver mode) (λ _. record { refused = refl; among = refl }) (record { refused = refl; among = refl });
         fits = λ i. omega arith;
       })
@@ -353,7 +353,7 @@ module _ (m : Manager) (P : Call → Outcome → List Record → Type 0) (by : B
         names = λ number. refl;
         unready = record { refused = refl; among = refl };
         nobody = record { refused = refl; among = refl };
-        declined = report-declined (clear_done t) Report.Cleared (λ e. absurd (true≢false (sym e))) (record { refused = refl; among = refl });
+        declined = report_declined (clear_done t) Report.Cleared (λ e. absurd (true≢false (sym e))) (record { refused = refl; among = refl });
         fits = λ i. omega arith;
       })
       (λ i. refl)
@@ -362,15 +362,15 @@ module _ (m : Manager) (P : Call → Outcome → List Record → Type 0) (by : B
         names = λ number. refl;
         unready = record { refused = refl; among = refl };
         nobody = record { refused = refl; among = refl };
-        declined = report-declined (check_done t) Report.Checked (λ e. absurd (true≢false (sym e))) (record { refused = refl; among = refl });
+        declined = report_declined (check_done t) Report.Checked (λ e. absurd (true≢false (sym e))) (record { refused = refl; among = refl });
         fits = λ i. omega arith;
       })
       (λ i. refl)
   by_call (tick room) =
-      by-gate (tick room) room
+      by_gate_lem (tick room) room
       (tick_needs m) _ _ (record { refused = refl; among = refl }) (record { refused = refl; among = refl }) (λ e n. refl) (λ s e. by.ticks room s e)
   by_call (listen value room) =
-      by-gate (listen value room) room (listen_needs m) _ _ (record { refused = refl; among = refl }) (record { refused = refl; among = refl })
+      by_gate_lem (listen value room) room (listen_needs m) _ _ (record { refused = refl; among = refl }) (record { refused = refl; among = refl })
       (λ e n. refl) (λ s e. by_value_lem s e (ltb 1 value) refl)
     where
       by_value_lem : m.stage ≡ Stage.Started → ltb room (listen_needs m) ≡ false → (above : Bool) → ltb 1 value ≡ above

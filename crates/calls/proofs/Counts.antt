@@ -9,7 +9,7 @@ use Rattle.slots.specs.declared.Outcome.{Outcome}
 use Rattle.network.specs.Moving.{tick_records}
 use Rattle.slots.specs.Manager.{networks_of, share, tick_needs, listen_needs}
 use Rattle.slots.specs.Calls.{Call, all_ticked, listened, outcome, by_rules, handed_out, buffer_with, Gives}
-use Rattle.lent_calls.proofs.Gathered.{gathered-summed}
+use Rattle.lent_calls.proofs.Gathered.{gathered_summed}
 use Rattle.lent_calls.proofs.Ticks.{tick_share}
 use Rattle.listen_calls.proofs.Online.{anew_fits}
 use Rattle.calls.specs.Histories.{room_of, counts_records}
@@ -26,7 +26,7 @@ rules_counted m = by_call m Counted (record {
   refuses = λ c a r f. record { count = λ _. refl; room = omega arith };
   declines = λ c id sight i a e f d r. record { count = λ _. refl; room = omega arith };
   takes = λ c id sight i e f t room. record { count = λ _. refl; room = room };
-  ticks = λ room s e. record { count = λ _. refl; room = omega (arith, ltb-false room (tick_needs m) e, gathered-summed tick_records share tick_share (networks_of m) m.states) };
+  ticks = λ room s e. record { count = λ _. refl; room = omega (arith, ltb-false room (tick_needs m) e, gathered_summed tick_records share tick_share (networks_of m) m.states) };
   listens = λ value room s e a. record { count = λ _. refl; room = omega (arith, ltb-false room (listen_needs m) e, anew_fits m (eqb 1 value)) };
   polls = λ handle i f. record { count = λ _. refl; room = omega arith };
   reads = λ bytes f e. record { count = λ e. absurd (false≢true e); room = omega arith };

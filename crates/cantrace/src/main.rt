@@ -1,5 +1,7 @@
 // `cantrace`: reads a recorded input, a sheet and then events, from standard input, and writes its lines.
 // E13: the whole case is its stored input, and what it writes is compared with its stored output.
+#![tactic(auto)]
+
 use libc::STDIN_FILENO;
 use trace::Trace;
 

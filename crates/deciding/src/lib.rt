@@ -1,4 +1,6 @@
 // The tick's one decision. What a tick can decide, and the definition of the decision, stand with the steps.
+#![tactic(auto)]
+
 ghost use Rattle.std.specs.Prelude.{◌≡◌, cond};
 ghost use Rattle.steps.specs.Decision.{by_mode, by_partial, by_transceiver, when_done, risen, goes_down, rule_of, decision};
 

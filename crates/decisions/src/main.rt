@@ -1,6 +1,8 @@
 // Writes all 1,224 decisions of the tick: a line for each step, with the step and its 72 next steps, each choice in this order: wanted no,
 // silent, full; done, not done; a refusal present, absent; the timer reached, not; no transceiver, a transceiver, a transceiver with partial
 // networking. The last varies fastest.
+#![tactic(auto)]
+
 use records::{Mode, NamedMode};
 use steps::{Outfit, Step};
 

@@ -10,7 +10,7 @@ use Rattle.settings.specs.declared.Id.{Id}
 use Rattle.settings.specs.Settings.{has, holder_of}
 use Rattle.sheet.specs.Encode.{encode}
 use Rattle.handing.specs.Handing.{online_in, own_record}
-use Rattle.handing.proofs.Laws.{online-own}
+use Rattle.handing.proofs.Laws.{online_own}
 use Rattle.network.specs.declared.State.{State}
 use Rattle.network.specs.State.{started}
 use Rattle.network.specs.Replies.{is_taken}
@@ -26,7 +26,7 @@ use Rattle.slots.specs.Manager.{controller_count, tick_needs, listen_needs}
 use Rattle.slots.specs.Calls.{Call, write, poll, by_stage}
 use Rattle.slots.specs.Calls.{writing_of, slot_of, by_slot, answer_of, slot_outcome, named, slot_records, polled, gate_of, by_gate}
 use Rattle.slots.specs.Calls.{trouble_needs, changes, all_ticked, all_online, online_anew, listened, outcome, by_rules, handed_out}
-use Rattle.slots.proofs.Own.{slot-takes, slot-declines, named-at, slot-state}
+use Rattle.slots.proofs.Own.{slot_takes, slot_declines, named_at, slot_state}
 use Rattle.calls.specs.Histories.{Entry, entry_of, History, Since, begun, goes, ids_of, Address, to, to_all, to_nobody, address_of, seen_as, Switch, turns}
 use Rattle.calls.specs.Histories.{leaves, switch_of, switched}
 use Rattle.calls.proofs.ByCall.{by_call}
@@ -38,10 +38,10 @@ use Rattle.demands.specs.Demands.{Begun}
 use Rattle.demands.specs.Across.{names, Asked, itself, ticks, listens, asked_of_all, asked_by, asked, SameTo, Given, given_by, given, Alike, BySheet}
 use Rattle.demands.specs.Across.{NothingLeaks}
 use Rattle.demands.proofs.Apart.{Once}
-use Rattle.demands.proofs.Parts.{own-slot, own-gathered, entry-fits}
-use Rattle.demands.proofs.Switches.{refused_leaves, call_switches, view-plain, handed-turned}
-use Rattle.demands.proofs.Follow.{Tracked, same-network, same-needs, in_use, once, follow, latest}
-use Rattle.demands.proofs.Listening.{no_turn, turn_alone, by_turn, keep_turned, starts-deaf}
+use Rattle.demands.proofs.Parts.{own_slot, own_gathered, entry_fits}
+use Rattle.demands.proofs.Switches.{refused_leaves, call_switches, view_plain, handed_turned}
+use Rattle.demands.proofs.Follow.{Tracked, same_network, same_needs, in_use, once, follow, latest}
+use Rattle.demands.proofs.Listening.{no_turn, turn_alone, by_turn, keep_turned, starts_deaf}
 
 -- a list of one is not empty
 some : {A B : Type 0} {x : A} {l : List A} → x ∷ l ≡ [] → B
@@ -113,40 +113,40 @@ module _
     mode : o.mode ≡ o'.mode
     state : state_at o.manager i ≡ state_at o'.manager 0
 
-  refused-same : (answer : Answer) → Same (refused m answer) (refused a answer)
-  refused-same answer = record { answer = refl; mode = refl; state = refl }
+  refused_same : (answer : Answer) → Same (refused m answer) (refused a answer)
+  refused_same answer = record { answer = refl; mode = refl; state = refl }
 
   slot_same : (sight : Sight) → Same (slot_outcome m i sight) (slot_outcome a 0 sight)
-  slot_same sight = by-reply (is_taken (part_of n s sight).reply) refl
+  slot_same sight = by_reply_lem (is_taken (part_of n s sight).reply) refl
     where
-      by-reply : (taken : Bool) → is_taken (part_of n s sight).reply ≡ taken → Same (slot_outcome m i sight) (slot_outcome a 0 sight)
-      by-reply true e = rw (slot-takes m i sight e, slot-takes a 0 sight e) (record {
+      by_reply_lem : (taken : Bool) → is_taken (part_of n s sight).reply ≡ taken → Same (slot_outcome m i sight) (slot_outcome a 0 sight)
+      by_reply_lem true e = rw (slot_takes m i sight e, slot_takes a 0 sight e) (record {
         answer = refl;
         mode = refl;
-        state = get_or-set_same m.states i (part_of n s sight).state blank_state (slot-state m sound.networks sound.states i used);
+        state = get_or-set_same m.states i (part_of n s sight).state blank_state (slot_state m sound.networks sound.states i used);
       })
-      by-reply false e = rw (slot-declines m i sight e, slot-declines a 0 sight e) (refused-same (answer_of (part_of n s sight).reply))
+      by_reply_lem false e = rw (slot_declines m i sight e, slot_declines a 0 sight e) (refused_same (answer_of (part_of n s sight).reply))
 
   module _ (id : Id) (own : has id n ≡ true) where
     slot : slot_of m id ≡ Slot.At i
-    slot = own-slot m sound once ready i used id own
+    slot = own_slot m sound once ready i used id own
 
-    named-same : (sight : Sight) → Same (named m id sight) (named a id sight)
-    named-same sight = rw (named-at m i sight id slot, named-at a 0 sight id (alone_slot n s m.listening id own)) (slot_same sight)
+    named_same : (sight : Sight) → Same (named m id sight) (named a id sight)
+    named_same sight = rw (named_at m i sight id slot, named_at a 0 sight id (alone_slot n s m.listening id own)) (slot_same sight)
 
-    poll-same : Same (by_slot m (slot_of m id) (λ j. polled m (state_at m j).told)) (by_slot a (slot_of a id) (λ j. polled a (state_at a j).told))
-    poll-same = rw (slot, alone_slot n s m.listening id own) (record { answer = refl; mode = refl; state = refl })
+    poll_same : Same (by_slot m (slot_of m id) (λ j. polled m (state_at m j).told)) (by_slot a (slot_of a id) (λ j. polled a (state_at a j).told))
+    poll_same = rw (slot, alone_slot n s m.listening id own) (record { answer = refl; mode = refl; state = refl })
 
-    records-same : (sight : Sight) → slot_records m (slot_of m id) sight ≡ slot_records a (slot_of a id) sight
-    records-same sight = rw (slot, alone_slot n s m.listening id own) refl
+    records_same : (sight : Sight) → slot_records m (slot_of m id) sight ≡ slot_records a (slot_of a id) sight
+    records_same sight = rw (slot, alone_slot n s m.listening id own) refl
 
   gate_same : (room needs : ℕ) (o o' : Outcome) → Same o o' → Same (by_gate m (gate_of m room needs) o) (by_gate a (gate_of a room needs) o')
   gate_same room needs o o' e = subst (λ (g : Gate). Same (by_gate m g o) (by_gate a (gate_of a room needs) o')) (sym (gates m a ready refl room needs))
-      (by-gate (gate_of a room needs))
+      (by_gate_lem (gate_of a room needs))
     where
-      by-gate : (g : Gate) → Same (by_gate m g o) (by_gate a g o')
-      by-gate (Gate.Refused answer) = refused-same answer
-      by-gate Gate.Open = e
+      by_gate_lem : (g : Gate) → Same (by_gate m g o) (by_gate a g o')
+      by_gate_lem (Gate.Refused answer) = refused_same answer
+      by_gate_lem Gate.Open = e
 
   -- its outcome and its records, and that it leaves listening
   record OwnCall (c : Call) : Type 0 where
@@ -154,9 +154,9 @@ module _
     made : by_rules m c ≡ by_rules a c
     switch : (number : ℕ) → switch_of number c ≡ leaves
 
-  own-call : (c : Call) → names n c ≡ true → OwnCall c
+  own_call : (c : Call) → names n c ≡ true → OwnCall c
   unfolding any outcome by_rules
-  own-call c = by_kind c (kind_of c)
+  own_call c = by_kind c (kind_of c)
     where
       -- the one id that it names
       one : (c : Call) (id : Id) → ids_of c ≡ id ∷ [] → names n c ≡ true → has id n ≡ true
@@ -164,18 +164,18 @@ module _
 
       by_kind : (c : Call) → Kind c → names n c ≡ true → OwnCall c
       by_kind _ (names_id c id sight k) e = record {
-        given = rw (k.gives m, k.gives a) (named-same id (one c id k.ids e) sight);
+        given = rw (k.gives m, k.gives a) (named_same id (one c id k.ids e) sight);
         made = k.makes m ∙ sym (k.makes a);
         switch = k.switch;
       }
       by_kind _ (reports_trouble c room id trouble k) e = record {
         given = rw (k.gives m, k.gives a)
-            (gate_same room (trouble_needs trouble) _ _ (named-same id (one c id k.ids e) (sight_of trouble)));
-        made = k.makes m ∙ rw (gates m a ready refl room (trouble_needs trouble), records-same id (one c id k.ids e) (sight_of trouble)) refl
+            (gate_same room (trouble_needs trouble) _ _ (named_same id (one c id k.ids e) (sight_of trouble)));
+        made = k.makes m ∙ rw (gates m a ready refl room (trouble_needs trouble), records_same id (one c id k.ids e) (sight_of trouble)) refl
             ∙ sym (k.makes a);
         switch = k.switch;
       }
-      by_kind _ (is_poll handle) e = record { given = poll-same (Id.OfNetwork handle) (sym (or-false _) ∙ e); made = refl; switch = λ number. refl }
+      by_kind _ (is_poll handle) e = record { given = poll_same (Id.OfNetwork handle) (sym (or-false _) ∙ e); made = refl; switch = λ number. refl }
       by_kind _ (is_read bytes) e = absurd (false≢true e)
       by_kind _ (is_write room) e = absurd (false≢true e)
       by_kind _ is_start e = absurd (false≢true e)
@@ -189,24 +189,24 @@ module _
 
     -- as the network sees it
     fits : Fits n s (view_of n e) × (state_at (outcome m c).manager i ≡ (played n s (view_of n e).sight).state)
-    fits = entry-fits m sound once ready i used c
+    fits = entry_fits m sound once ready i used c
 
     -- whether the manager listens after it
-    listens-so : (x : Switch) → switch_of e.number c ≡ x → (outcome m c).manager.listening ≡ switched x m.listening
-    listens-so x l = call_switches m c ∙ ap (λ (y : Switch). switched y m.listening) l
+    listens_so : (x : Switch) → switch_of e.number c ≡ x → (outcome m c).manager.listening ≡ switched x m.listening
+    listens_so x l = call_switches m c ∙ ap (λ (y : Switch). switched y m.listening) l
 
     -- one that leaves listening hands out the network's own records as it sees them, as online goes out
     own_out : switch_of e.number c ≡ leaves → keep (own_record n) (handed_out m c) ≡ map (turned m.listening) (handed n s (view_of n e).sight)
     own_out l =
-        ap (keep (own_record n)) (handed-turned m c m.listening (listens-so leaves l)) ∙ keep_turned n m.listening (by_rules m c)
-        ∙ ap (map (turned m.listening)) (sym (view-plain m c n l) ∙ fits.0.records)
+        ap (keep (own_record n)) (handed_turned m c m.listening (listens_so leaves l)) ∙ keep_turned n m.listening (by_rules m c)
+        ∙ ap (map (turned m.listening)) (sym (view_plain m c n l) ∙ fits.0.records)
 
     -- Q of what reaches the network, by the ways in which it can
-    by-asked : (Q : List Asked → Type 0) → (names n c ≡ true → Q (itself c ∷ [])) → (address_of e.number c ≡ to_all → Q (ticks ∷ []))
+    by_asked : (Q : List Asked → Type 0) → (names n c ≡ true → Q (itself c ∷ [])) → (address_of e.number c ≡ to_all → Q (ticks ∷ []))
         → ((listening : Bool) → switch_of e.number c ≡ turns listening → Q (listens listening ∷ []))
         → ((view_of n e).sight ≡ nothing → switch_of e.number c ≡ leaves → Q []) → Q (asked_by n e)
     unfolding any
-    by-asked Q own all switching none = by_name (names n c) refl (address_of e.number c) refl (switch_of e.number c) refl
+    by_asked Q own all switching none = by_name (names n c) refl (address_of e.number c) refl (switch_of e.number c) refl
       where
         unnamed : (id : Id) (sight : Sight) → address_of e.number c ≡ to id sight → names n c ≡ false → has id n ≡ false
         unnamed id sight x f = sym (or-false _) ∙ ap (any (λ (y : Id). has y n)) (sym (address_names e.number c id sight x).0) ∙ f
@@ -233,10 +233,10 @@ module _
   neither : (c : Call) (o : Outcome) → (address_of (answer_number o.answer) c ≡ to_all → ⊥) → switch_of (answer_number o.answer) c ≡ leaves → ToAll c o
   neither c o f l = record { ticked = λ p. absurd (f p); turned = λ to p. no_turn (sym l ∙ p) }
 
-  to-all : (c : Call) → ToAll c (outcome m c)
+  to_all_lem : (c : Call) → ToAll c (outcome m c)
   unfolding all_ticked listened
-  to-all = by_call m (λ c o rs. ToAll c o) (record {
-    refuses = λ c x r f. neither c (refused m x) (λ p. ticks-seen (ap (seen_as n) (sym p) ∙ f ready i used)) (refused_leaves (answer_number x) c r.refused);
+  to_all_lem = by_call m (λ c o rs. ToAll c o) (record {
+    refuses = λ c x r f. neither c (refused m x) (λ p. ticks_seen (ap (seen_as n) (sym p) ∙ f ready i used)) (refused_leaves (answer_number x) c r.refused);
     declines = λ c id sight j x q f d r. neither c (refused m x) (λ p. one_way (sym q ∙ p)) (refused_leaves (answer_number x) c r.refused);
     takes = λ c id sight j q f t k. neither c _ (λ p. one_way (sym q ∙ p)) (address_names 0 c id sight q).1;
     ticks = λ room g k. record { ticked = λ p. (record { number = refl; mode = refl }, refl); turned = λ to p. no_turn p };
@@ -248,8 +248,8 @@ module _
     starts = λ q. absurd (let z : ◌≡◌ {A = ℕ} 0 1 = cc in omega arith);
   })
     where
-      ticks-seen : {A : Type 0} → a_tick ≡ nothing → A
-      ticks-seen p = absurd (let z : ◌≡◌ {A = ℕ} 0 1 = cc in omega arith)
+      ticks_seen : {A : Type 0} → a_tick ≡ nothing → A
+      ticks_seen p = absurd (let z : ◌≡◌ {A = ℕ} 0 1 = cc in omega arith)
 
       one_way : {A : Type 0} {id : Id} {sight : Sight} → to id sight ≡ to_all → A
       one_way p = absurd (let z : ◌≡◌ {A = ℕ} 0 1 = cc in omega arith)
@@ -276,79 +276,79 @@ module _
     own : names n c ≡ true → Q (itself c ∷ [])
     unfolding handed_out
     own p =
-        let k = own-call c p in
+        let k = own_call c p in
         let g = k.given in
         let listening : (outcome m c).manager.listening ≡ (outcome a c).manager.listening =
-        listens-so c leaves (k.switch _) ∙ sym (call_switches a c ∙ ap (λ (x : Switch). switched x m.listening) (k.switch _)) in
+        listens_so c leaves (k.switch _) ∙ sym (call_switches a c ∙ ap (λ (x : Switch). switched x m.listening) (k.switch _)) in
         let records : handed_out m c ≡ handed_out a c = (λ j. map (turned (listening j)) (k.made j)) in
-        reaching (itself c) (λ j. record { state = sym g.state j; listening = sym (listens-so c leaves (k.switch _)) j })
+        reaching (itself c) (λ j. record { state = sym g.state j; listening = sym (listens_so c leaves (k.switch _)) j })
         (λ j. record { number = answer_number (sym g.answer j); mode = sym g.mode j; records = keep (own_record n) (sym records j) })
 
     by_tick : address_of (e c).number c ≡ to_all → Q (ticks ∷ [])
     by_tick p =
-        let k = (to-all c).ticked p in
+        let k = (to_all_lem c).ticked p in
         let sight : (view_of n (e c)).sight ≡ a_tick = ap (seen_as n) p in
         let state = (fits c).1 ∙ ap (λ (x : Sight). (played n s x).state) sight in
         let records = own_out c k.1 ∙ ap (λ (x : Sight). map (turned m.listening) (handed n s x)) sight in
-        reaching ticks (λ j. record { state = sym state j; listening = sym (listens-so c leaves k.1) j })
+        reaching ticks (λ j. record { state = sym state j; listening = sym (listens_so c leaves k.1) j })
         (λ j. record { number = sym k.0.number j; mode = sym k.0.mode j; records = sym records j })
 
     turning : (listening : Bool) → switch_of (e c).number c ≡ turns listening → Q (listens listening ∷ [])
     unfolding online_anew all_online keep
     turning value p =
-        let k = (to-all c).turned value p in
+        let k = (to_all_lem c).turned value p in
         let same : after.states ≡ m.states = ap (λ (x : Manager). x.states) (turn_alone m ready c value p) in
         let state : state_at after i ≡ s = ap (λ (l : List State). get_or l i blank_state) same in
         let records : keep (own_record n) (handed_out m c) ≡ map (turned value) (cond (changes m.listening value) (online_in n s.step) []) =
         by_turn m ready (λ x rs. keep (own_record n) rs ≡ map (turned x) (cond (changes m.listening x) (online_in n s.step) []))
         (λ x. keep_turned n x (online_anew m x) ∙ ap (map (turned x)) (own_anew (changes m.listening x))) c value p in
-        reaching (listens value) (λ j. record { state = sym state j; listening = sym (listens-so c (turns value) p) j })
+        reaching (listens value) (λ j. record { state = sym state j; listening = sym (listens_so c (turns value) p) j })
         (λ j. record { number = sym k.number j; mode = sym k.mode j; records = sym records j })
       where
         own_anew : (b : Bool) → keep (own_record n) (cond b (all_online m) []) ≡ cond b (online_in n s.step) []
-        own_anew true = own-gathered m sound once ready i used (λ (k : Network) (t : State). online_in k t.step) (λ k t. online-own k t.step)
+        own_anew true = own_gathered m sound once ready i used (λ (k : Network) (t : State). online_in k t.step) (λ k t. online_own k t.step)
         own_anew false = refl
 
     passing : (view_of n (e c)).sight ≡ nothing → switch_of (e c).number c ≡ leaves → Q []
     unfolding played
     passing p l =
         let state : state_at after i ≡ s = (fits c).1 ∙ ap (λ (x : Sight). (played n s x).state) p in
-        (held.stand ∙ (λ j. record { state = sym state j; listening = sym (listens-so c leaves l) j }), held.gift)
+        (held.stand ∙ (λ j. record { state = sym state j; listening = sym (listens_so c leaves l) j }), held.gift)
 
     goes_on : Held n after i (e c ∷ h)
     unfolding asked given
-    goes_on = let k = by-asked c Q own by_tick turning passing in record { stand = k.0; gift = k.1 }
+    goes_on = let k = by_asked c Q own by_tick turning passing in record { stand = k.0; gift = k.1 }
 
   -- what does not reach it
   passes : (c : Call) → asked_by n (entry_of m c) ≡ [] → keep (own_record n) (handed_out m c) ≡ []
   unfolding handed
-  passes c = by-asked c (λ l. l ≡ [] → keep (own_record n) (handed_out m c) ≡ []) (λ _ p. some p) (λ _ p. some p) (λ _ _ p. some p)
+  passes c = by_asked c (λ l. l ≡ [] → keep (own_record n) (handed_out m c) ≡ []) (λ _ p. some p) (λ _ p. some p) (λ _ _ p. some p)
       (λ p l _. own_out c l ∙ ap (λ (x : Sight). map (turned m.listening) (handed n s x)) p)
 
 -- ---- since the start
 module _ (m₀ : Manager) (b : Begun m₀) (i : ℕ) (used : i < length (networks_of m₀)) where
-  held-since : (m : Manager) (h : History) → Since m₀ m h → Held (network_at m₀ i) m i h
+  held_since : (m : Manager) (h : History) → Since m₀ m h → Held (network_at m₀ i) m i h
   unfolding stands gifts asked given state_of
-  held-since _ _ begun = record {
-    stand = λ j. record { state = first-record j; listening = sym (starts-deaf m₀ b) j };
+  held_since _ _ begun = record {
+    stand = λ j. record { state = first_record j; listening = sym (starts_deaf m₀ b) j };
     gift = refl;
   }
     where
-      first-record : started (network_at m₀ i) ≡ state_at m₀ i
-      first-record = (follow m₀ m₀ [] b begun).state i used
-  held-since _ _ (goes m h c r) =
+      first_record : started (network_at m₀ i) ≡ state_at m₀ i
+      first_record = (follow m₀ m₀ [] b begun).state i used
+  held_since _ _ (goes m h c r) =
       let f = follow m₀ m h b r in
-      subst (λ (n : Network). Held n m i h → Held n (outcome m c).manager i (entry_of m c ∷ h)) (same-network m₀ m h f i)
-      (λ held. goes_on m f.sound (once m₀ m h f) f.started i (in_use m₀ m h f i used) h held c) (held-since m h r)
+      subst (λ (n : Network). Held n m i h → Held n (outcome m c).manager i (entry_of m c ∷ h)) (same_network m₀ m h f i)
+      (λ held. goes_on m f.sound (once m₀ m h f) f.started i (in_use m₀ m h f i used) h held c) (held_since m h r)
 
-  elsewhere-since : (m : Manager) (e : Entry) (h : History) → Since m₀ m (e ∷ h) → asked_by (network_at m₀ i) e ≡ []
+  elsewhere_since : (m : Manager) (e : Entry) (h : History) → Since m₀ m (e ∷ h) → asked_by (network_at m₀ i) e ≡ []
       → keep (own_record (network_at m₀ i)) e.records ≡ []
-  elsewhere-since m e h r =
+  elsewhere_since m e h r =
       let k = latest m₀ m (e ∷ h) r e h refl in
       let f = follow m₀ k.on h b k.since in
       subst (λ (x : Entry). asked_by (network_at m₀ i) x ≡ [] → keep (own_record (network_at m₀ i)) x.records ≡ []) k.entry
       (subst (λ (n : Network). asked_by n (entry_of k.on k.call) ≡ [] → keep (own_record n) (handed_out k.on k.call) ≡ [])
-      (same-network m₀ k.on h f i) (passes k.on f.sound (once m₀ k.on h f) f.started i (in_use m₀ k.on h f i used) k.call))
+      (same_network m₀ k.on h f i) (passes k.on f.sound (once m₀ k.on h f) f.started i (in_use m₀ k.on h f i used) k.call))
 
 -- two histories that are the same to a network
 same_alike : (n : Network) (m m' : Manager) (i j : ℕ) (h h' : History) → Held n m i h → Held n m' j h' → SameTo n h h'
@@ -361,39 +361,39 @@ same_alike n m m' i j h h' p q e = record {
 -- ---- calls that name nobody
 module _ (m₀ m : Manager) (h : History) (f : Tracked m₀ m h) (ready : m₀.stage ≡ Stage.Started) where
   -- the answer to a call that is lent a buffer, by whether it has the room
-  gate-answers : (room needs needs' : ℕ) (o o' : Outcome) → needs ≡ needs' → o.answer ≡ o'.answer
+  gate_answers : (room needs needs' : ℕ) (o o' : Outcome) → needs ≡ needs' → o.answer ≡ o'.answer
       → (by_gate m (gate_of m room needs) o).answer ≡ (by_gate m₀ (gate_of m₀ room needs') o').answer
-  gate-answers room needs needs' o o' e q =
+  gate_answers room needs needs' o o' e q =
       ap (λ (k : ℕ). (by_gate m (gate_of m room k) o).answer) e
-      ∙ ap (λ (g : Gate). (by_gate m g o).answer) (gates m m₀ f.started ready room needs') ∙ by-gate (gate_of m₀ room needs')
+      ∙ ap (λ (g : Gate). (by_gate m g o).answer) (gates m m₀ f.started ready room needs') ∙ by_gate_lem (gate_of m₀ room needs')
     where
-      by-gate : (g : Gate) → (by_gate m g o).answer ≡ (by_gate m₀ g o').answer
-      by-gate (Gate.Refused a) = refl
-      by-gate Gate.Open = q
+      by_gate_lem : (g : Gate) → (by_gate m g o).answer ≡ (by_gate m₀ g o').answer
+      by_gate_lem (Gate.Refused a) = refl
+      by_gate_lem Gate.Open = q
 
-  write-answers : (room : ℕ) → (writing_of m room).answer ≡ (writing_of m₀ room).answer
+  write_answers : (room : ℕ) → (writing_of m room).answer ≡ (writing_of m₀ room).answer
   unfolding writing_of
-  write-answers room = by-room m ∙ ap (λ (x : Settings). cond (leb (length (encode x)) room) Answer.Accepted Answer.TooShort) f.settings ∙ sym (by-room m₀)
+  write_answers room = by_room m ∙ ap (λ (x : Settings). cond (leb (length (encode x)) room) Answer.Accepted Answer.TooShort) f.settings ∙ sym (by_room m₀)
     where
-      by-room : (k : Manager) → (cond (leb (length (encode (settings_of k))) room) (accepted k (length (encode (settings_of k)))) (refused k Answer.TooShort)).answer
+      by_room : (k : Manager) → (cond (leb (length (encode (settings_of k))) room) (accepted k (length (encode (settings_of k)))) (refused k Answer.TooShort)).answer
           ≡ cond (leb (length (encode (settings_of k))) room) Answer.Accepted Answer.TooShort
-      by-room k = by-test (leb (length (encode (settings_of k))) room)
+      by_room k = by_test (leb (length (encode (settings_of k))) room)
         where
-          by-test : (b : Bool) → (cond b (accepted k (length (encode (settings_of k)))) (refused k Answer.TooShort)).answer
+          by_test : (b : Bool) → (cond b (accepted k (length (encode (settings_of k)))) (refused k Answer.TooShort)).answer
               ≡ cond b Answer.Accepted Answer.TooShort
-          by-test true = refl
-          by-test false = refl
+          by_test true = refl
+          by_test false = refl
 
-  listen-answers : (value : ℕ) (above : Bool) → (cond above (refused m Answer.OutOfRange) (listened m (eqb 1 value))).answer
+  listen_answers : (value : ℕ) (above : Bool) → (cond above (refused m Answer.OutOfRange) (listened m (eqb 1 value))).answer
       ≡ (cond above (refused m₀ Answer.OutOfRange) (listened m₀ (eqb 1 value))).answer
   unfolding listened
-  listen-answers value true = refl
-  listen-answers value false = refl
+  listen_answers value true = refl
+  listen_answers value false = refl
 
   -- they go by the sheet and by what they are lent
-  sheet-answers : (c : Call) → ids_of c ≡ [] → (outcome m c).answer ≡ (outcome m₀ c).answer
+  sheet_answers : (c : Call) → ids_of c ≡ [] → (outcome m c).answer ≡ (outcome m₀ c).answer
   unfolding outcome all_ticked listen_needs
-  sheet-answers c = by_kind c (kind_of c)
+  sheet_answers c = by_kind c (kind_of c)
     where
       by_kind : (c : Call) → Kind c → ids_of c ≡ [] → (outcome m c).answer ≡ (outcome m₀ c).answer
       by_kind _ (names_id c id sight k) e = some (sym k.ids ∙ e)
@@ -401,26 +401,26 @@ module _ (m₀ m : Manager) (h : History) (f : Tracked m₀ m h) (ready : m₀.s
       by_kind _ (is_poll handle) e = some e
       by_kind _ (is_read bytes) e = rw (f.started, ready) refl
       by_kind _ (is_write room) e =
-          ap (λ (g : Stage). (by_stage g (refused m Answer.NotReady) (writing_of m room) (writing_of m room)).answer) f.started ∙ write-answers room
+          ap (λ (g : Stage). (by_stage g (refused m Answer.NotReady) (writing_of m room) (writing_of m room)).answer) f.started ∙ write_answers room
           ∙ sym (ap (λ (g : Stage). (by_stage g (refused m₀ Answer.NotReady) (writing_of m₀ room) (writing_of m₀ room)).answer) ready)
       by_kind _ is_start e = rw (f.started, ready) refl
-      by_kind _ (is_tick room) e = gate-answers room (tick_needs m) (tick_needs m₀) (all_ticked m) (all_ticked m₀) (same-needs m₀ m h f) refl
+      by_kind _ (is_tick room) e = gate_answers room (tick_needs m) (tick_needs m₀) (all_ticked m) (all_ticked m₀) (same_needs m₀ m h f) refl
       by_kind _ (is_listen value room) e =
-          gate-answers room (listen_needs m) (listen_needs m₀) _ _
-          (ap (λ (x : Settings). 3 * summed controller_count (take x.count x.networks)) f.settings) (listen-answers value (ltb 1 value))
+          gate_answers room (listen_needs m) (listen_needs m₀) _ _
+          (ap (λ (x : Settings). 3 * summed controller_count (take x.count x.networks)) f.settings) (listen_answers value (ltb 1 value))
 
 module _ (m₀ : Manager) (b : Begun m₀) where
   -- the number of the latest answer
-  sheet-number : (m : Manager) (e : Entry) (h : History) → Since m₀ m (e ∷ h) → ids_of e.call ≡ [] → e.number ≡ (entry_of m₀ e.call).number
-  sheet-number m e h r =
+  sheet_number : (m : Manager) (e : Entry) (h : History) → Since m₀ m (e ∷ h) → ids_of e.call ≡ [] → e.number ≡ (entry_of m₀ e.call).number
+  sheet_number m e h r =
       let k = latest m₀ m (e ∷ h) r e h refl in
       subst (λ (x : Entry). ids_of x.call ≡ [] → x.number ≡ (entry_of m₀ x.call).number) k.entry
-      (λ p. ap answer_number (sheet-answers m₀ k.on h (follow m₀ k.on h b k.since) (follow m₀ m₀ [] b begun).started k.call p))
+      (λ p. ap answer_number (sheet_answers m₀ k.on h (follow m₀ k.on h b k.since) (follow m₀ m₀ [] b begun).started k.call p))
 
   by_sheet : (m m' : Manager) (e e' : Entry) (h h' : History) → Since m₀ m (e ∷ h) → Since m₀ m' (e' ∷ h') → BySheet e e'
   by_sheet m m' e e' h h' r r' same none =
-      sheet-number m e h r none ∙ ap (λ (c : Call). (entry_of m₀ c).number) same
-      ∙ sym (sheet-number m' e' h' r' (ap ids_of (sym same) ∙ none))
+      sheet_number m e h r none ∙ ap (λ (c : Call). (entry_of m₀ c).number) same
+      ∙ sym (sheet_number m' e' h' r' (ap ids_of (sym same) ∙ none))
 
   -- ---- nothing leaks across
   module _ (i : ℕ) (used : i < length (networks_of m₀)) where
@@ -428,13 +428,13 @@ module _ (m₀ : Manager) (b : Begun m₀) where
         → (m m' : Manager) (h h' : History) → Since m₀ m h → Since m₀' m' h' → SameTo (network_at m₀ i) h h'
         → Alike (network_at m₀ i) (state_at m i) (state_at m' j) h h'
     other_sheet m₀' j b' used' e m m' h h' r r' =
-        same_alike (network_at m₀ i) m m' i j h h' (held-since m₀ b i used m h r)
-        (subst (λ (n : Network). Held n m' j h') (sym e) (held-since m₀' b' j used' m' h' r'))
+        same_alike (network_at m₀ i) m m' i j h h' (held_since m₀ b i used m h r)
+        (subst (λ (n : Network). Held n m' j h') (sym e) (held_since m₀' b' j used' m' h' r'))
 
     pub nothing_leaks : NothingLeaks m₀ i
     nothing_leaks = record {
       alike = other_sheet m₀ i b used refl;
       other_sheet = other_sheet;
-      elsewhere = elsewhere-since m₀ b i used;
+      elsewhere = elsewhere_since m₀ b i used;
       by_sheet = by_sheet;
     }

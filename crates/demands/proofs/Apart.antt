@@ -2,7 +2,7 @@
 use Rattle.lists.proofs.Basics.{ℕ, zero, suc, ◌<◌, arith, eqb-true, ◌≡◌, refl, sym, ap, ◌∙◌, List, [], ◌∷◌, ◌++◌, Bool, true, false, cond, ◌&&◌}
 use Rattle.lists.proofs.Basics.{◌||◌, or-false, true≢false, eqb, length, get_or}
 use Rattle.lists.specs.Lists.{any, every}
-use Rattle.lists.proofs.Any.{any_append, every-cons, or_first, or_second, and_both}
+use Rattle.lists.proofs.Any.{any_append, every_cons, or_first, or_second, and_both}
 use Rattle.records.specs.declared.Record.{Record}
 use Rattle.settings.specs.declared.Network.{Network}
 use Rattle.settings.specs.declared.Id.{Id}
@@ -25,10 +25,10 @@ fresh_absent : (e l : List ℕ) (x : ℕ) → Fresh e l → member x e ≡ true 
 unfolding Fresh any
 fresh_absent e [] x f p = refl
 fresh_absent e (y ∷ l) x f p =
-    by-test (eqb y x) refl (fresh_absent (e ++ (y ∷ [])) l x f.1 (member_left x e (y ∷ []) p)) where
-      by-test : (b : Bool) → eqb y x ≡ b → member x l ≡ false → b || member x l ≡ false
-      by-test true q r = absurd (true≢false (sym p ∙ ap (λ (z : ℕ). member z e) (sym (eqb-true y x q)) ∙ f.0))
-      by-test false q r = r
+    by_test (eqb y x) refl (fresh_absent (e ++ (y ∷ [])) l x f.1 (member_left x e (y ∷ []) p)) where
+      by_test : (b : Bool) → eqb y x ≡ b → member x l ≡ false → b || member x l ≡ false
+      by_test true q r = absurd (true≢false (sym p ∙ ap (λ (z : ℕ). member z e) (sym (eqb-true y x q)) ∙ f.0))
+      by_test false q r = r
 
 -- a network's id is one of all
 all_member : (ids : Network → List ℕ) (ns : List Network) (j : ℕ) (d : Network) (x : ℕ) →
@@ -65,51 +65,51 @@ has_transceiver_lem (Transceiver.Present y) x = sym (or-false _)
 
 module _ (ns : List Network) (once : Once ns) (i j : ℕ) (d : Network) (h : i < length ns) (k : j < length ns) where
   -- two networks that have an id are one
-  pub has-once : (id : Id) → has id (get_or ns i d) ≡ true → has id (get_or ns j d) ≡ true → i ≡ j
+  pub has_once : (id : Id) → has id (get_or ns i d) ≡ true → has id (get_or ns j d) ≡ true → i ≡ j
   unfolding any
-  has-once (Id.OfNetwork x) p q = fresh_once handles_of [] ns i j d x once.handles h k (or-false _ ∙ p) (or-false _ ∙ q)
-  has-once (Id.OfController x) p q = fresh_once controllers_of [] ns i j d x once.controllers h k p q
-  has-once (Id.OfTransceiver x) p q =
+  has_once (Id.OfNetwork x) p q = fresh_once handles_of [] ns i j d x once.handles h k (or-false _ ∙ p) (or-false _ ∙ q)
+  has_once (Id.OfController x) p q = fresh_once controllers_of [] ns i j d x once.controllers h k p q
+  has_once (Id.OfTransceiver x) p q =
       fresh_once transceivers_of [] ns i j d x
       once.transceivers h k (sym (has_transceiver_lem (get_or ns i d).transceiver x) ∙ p) (sym (has_transceiver_lem (get_or ns j d).transceiver x) ∙ q)
 
-  targets-once : (b c e : Bool) (x : ℕ)
+  targets_once : (b c e : Bool) (x : ℕ)
       → member x (cond b (controllers_of (get_or ns i d)) (cond c (transceivers_of (get_or ns i d)) (cond e (handles_of (get_or ns i d)) []))) ≡ true
       → member x (cond b (controllers_of (get_or ns j d)) (cond c (transceivers_of (get_or ns j d)) (cond e (handles_of (get_or ns j d)) []))) ≡ true → i ≡ j
   unfolding any
-  targets-once true c e x p q = fresh_once controllers_of [] ns i j d x once.controllers h k p q
-  targets-once false true e x p q = fresh_once transceivers_of [] ns i j d x once.transceivers h k p q
-  targets-once false false true x p q = fresh_once handles_of [] ns i j d x once.handles h k p q
-  targets-once false false false x p q = absurd (true≢false (sym p))
+  targets_once true c e x p q = fresh_once controllers_of [] ns i j d x once.controllers h k p q
+  targets_once false true e x p q = fresh_once transceivers_of [] ns i j d x once.transceivers h k p q
+  targets_once false false true x p q = fresh_once handles_of [] ns i j d x once.handles h k p q
+  targets_once false false false x p q = absurd (true≢false (sym p))
 
   -- two networks that a record names as its own are one
-  pub own-once : (r : Record) → own_record (get_or ns i d) r ≡ true → own_record (get_or ns j d) r ≡ true → i ≡ j
+  pub own_once : (r : Record) → own_record (get_or ns i d) r ≡ true → own_record (get_or ns j d) r ≡ true → i ≡ j
   unfolding own_record targets_of
-  own-once r p q =
-      targets-once (member r.kind (1 ∷ 3 ∷ [])) (member r.kind (2 ∷ 4 ∷ 5 ∷ [])) (member r.kind (6 ∷ 7 ∷ 8 ∷ [])) r.target p q
+  own_once r p q =
+      targets_once (member r.kind (1 ∷ 3 ∷ [])) (member r.kind (2 ∷ 4 ∷ 5 ∷ [])) (member r.kind (6 ∷ 7 ∷ 8 ∷ [])) r.target p q
 
 -- ---- keep
 module _ {A : Type 0} (p : A → Bool) where
-  keep-cond : (b : Bool) (x : A) (l m : List A) → cond b (x ∷ l) l ++ m ≡ cond b (x ∷ (l ++ m)) (l ++ m)
-  keep-cond true x l m = refl
-  keep-cond false x l m = refl
+  keep_cond : (b : Bool) (x : A) (l m : List A) → cond b (x ∷ l) l ++ m ≡ cond b (x ∷ (l ++ m)) (l ++ m)
+  keep_cond true x l m = refl
+  keep_cond false x l m = refl
 
   pub keep_append : (l m : List A) → keep p (l ++ m) ≡ keep p l ++ keep p m
   unfolding keep
   keep_append [] m = refl
-  keep_append (x ∷ l) m = ap (λ (r : List A). cond (p x) (x ∷ r) r) (keep_append l m) ∙ sym (keep-cond (p x) x (keep p l) (keep p m))
+  keep_append (x ∷ l) m = ap (λ (r : List A). cond (p x) (x ∷ r) r) (keep_append l m) ∙ sym (keep_cond (p x) x (keep p l) (keep p m))
 
   pub keep_all : (l : List A) → every p l ≡ true → keep p l ≡ l
   unfolding keep
   keep_all [] e = refl
   keep_all (x ∷ l) e =
-      let both : p x && every p l ≡ true = sym (every-cons p x l) ∙ e in
+      let both : p x && every p l ≡ true = sym (every_cons p x l) ∙ e in
       rw (and_both (p x) (every p l) both).0 (ap (λ (r : List A). x ∷ r) (keep_all l (and_both (p x) (every p l) both).1))
 
   -- nothing is kept of what passes a test that p fails
-  pub keep-none : (q : A → Bool) → ((x : A) → q x ≡ true → p x ≡ false) → (l : List A) → every q l ≡ true → keep p l ≡ []
+  pub keep_none : (q : A → Bool) → ((x : A) → q x ≡ true → p x ≡ false) → (l : List A) → every q l ≡ true → keep p l ≡ []
   unfolding keep
-  keep-none q f [] e = refl
-  keep-none q f (x ∷ l) e =
-      let both : q x && every q l ≡ true = sym (every-cons q x l) ∙ e in
-      rw (f x (and_both (q x) (every q l) both).0) (keep-none q f l (and_both (q x) (every q l) both).1)
+  keep_none q f [] e = refl
+  keep_none q f (x ∷ l) e =
+      let both : q x && every q l ≡ true = sym (every_cons q x l) ∙ e in
+      rw (f x (and_both (q x) (every q l) both).0) (keep_none q f l (and_both (q x) (every q l) both).1)

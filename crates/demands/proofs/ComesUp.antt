@@ -15,7 +15,7 @@ use Rattle.network_demands.proofs.Climbing.{on_that_tick_from_start, records_fro
 use Rattle.demands.specs.View.{view_of, views_of}
 use Rattle.demands.specs.Demands.{Begun}
 use Rattle.demands.specs.ComesUp.{ComesUp, RestsInStep0}
-use Rattle.demands.proofs.Follow.{follow, ran-since, in_range, distinct}
+use Rattle.demands.proofs.Follow.{follow, ran_since, in_range, distinct}
 use Rattle.demands.proofs.DemandThree.{views_append}
 
 module _ (m₀ : Manager) (b₀ : Begun m₀) (i : ℕ) (h₀ : i < length (networks_of m₀)) where
@@ -30,7 +30,7 @@ module _ (m₀ : Manager) (b₀ : Begun m₀) (i : ℕ) (h₀ : i < length (netw
 
   -- a history since the start, as the network sees it
   ran : (m : Manager) (h : History) → Since m₀ m h → Ran n (views_of n h)
-  ran m h = ran-since m₀ b₀ i h₀ m h
+  ran m h = ran_since m₀ b₀ i h₀ m h
 
   parts : (m : Manager) (s h : History) → Since m₀ m (s ++ h) → Ran n (views_of n s ++ views_of n h)
   parts m s h r = subst (Ran n) (views_append n s h) (ran m (s ++ h) r)
@@ -47,7 +47,7 @@ module _ (m₀ : Manager) (b₀ : Begun m₀) (i : ℕ) (h₀ : i < length (netw
     never_stuck = λ m s h r. never_stuck n range apart (views_of n h) (views_of n s) (parts m s h r);
   }
 
-  pub rests-in-step-0 : RestsInStep0 m₀ i
-  rests-in-step-0 m h r =
+  pub rests_in_step_0 : RestsInStep0 m₀ i
+  rests_in_step_0 m h r =
       let f = follow m₀ m h b₀ r in
       rest_means n range (views_of n h) (f.ran i h₀) ∙ ap (λ (t : State). eqb 0 (step_number t.step)) (f.state i h₀)

@@ -16,9 +16,9 @@ use Rattle.calls.specs.Histories.{is_accepted, entry_of, refusals_of, answers_of
 use Rattle.calls.proofs.ByCall.{ByCall, by_call}
 use Rattle.calling.specs.declared.Task.{Task}
 use Rattle.calling.specs.Returned.{call_of, Returned}
-use Rattle.calling.proofs.ByTask.{by-task}
+use Rattle.calling.proofs.ByTask.{by_task}
 use Rattle.manager_theorems.specs.Careful.{Careful}
-use Rattle.manager_theorems.proofs.Careful.{refused-changes-nothing, refused-untouched, refused-unwritten}
+use Rattle.manager_theorems.proofs.Careful.{refused_changes_nothing, refused_untouched, refused_unwritten}
 use Rattle.demands.specs.DemandsOneAndTwo.{Demand1}
 
 -- a sheet's refusals are those of a reading
@@ -59,9 +59,9 @@ every_call_answers m = by_call m (λ c o rs. member (answer_number o.answer) (an
 untouched : (m : Manager) (task : Task) (bytes before : List ℕ) (r : Outcome) (after : List ℕ) → Returned m task bytes before r after
     → is_accepted r.answer ≡ false → after ≡ before
 untouched m task bytes before r after g e =
-    by-task m bytes before (λ c left. r ≡ outcome m c → after ≡ left → after ≡ before)
-    (λ c _ p q. refused-untouched m c before r after (record { result = p; buffer = q }) e) (λ p q. q)
-    (λ p q. refused-unwritten m before r after (record { result = p; buffer = q }) e) task g.result g.buffer
+    by_task m bytes before (λ c left. r ≡ outcome m c → after ≡ left → after ≡ before)
+    (λ c _ p q. refused_untouched m c before r after (record { result = p; buffer = q }) e) (λ p q. q)
+    (λ p q. refused_unwritten m before r after (record { result = p; buffer = q }) e) task g.result g.buffer
 
 -- of every call that code makes
 pub demand_1 : (m : Manager) (task : Task) (bytes before : List ℕ) (r : Outcome) (after : List ℕ) → Returned m task bytes before r after
@@ -69,7 +69,7 @@ pub demand_1 : (m : Manager) (task : Task) (bytes before : List ℕ) (r : Outcom
 demand_1 m task bytes before r after g =
     let c = call_of task bytes before in
     let careful : Careful m r (handed_out m c) =
-    subst (λ (o : Outcome). Careful m o (handed_out m c)) (sym g.result) (refused-changes-nothing m c) in
+    subst (λ (o : Outcome). Careful m o (handed_out m c)) (sym g.result) (refused_changes_nothing m c) in
     record {
       answers = ap (λ (o : Outcome). member (answer_number o.answer) (answers_of c)) g.result ∙ every_call_answers m c;
       manager = λ e. (careful e).manager;

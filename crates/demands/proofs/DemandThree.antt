@@ -19,14 +19,14 @@ use Rattle.network_demands.specs.Words.{told, counts}
 use Rattle.network_demands.specs.Own.{Ran}
 use Rattle.network_demands.proofs.Follows.{told_follows}
 use Rattle.network_demands.proofs.Counted.{restarting_means, count_follows, bus_off_raises}
-use Rattle.network_demands.proofs.OneFault.{counted-once}
-use Rattle.network_demands.proofs.Told.{told_exactly, told_no, first-sentence}
-use Rattle.network_demands.proofs.Second.{late_answers, late_after_stall, second-sentence}
+use Rattle.network_demands.proofs.OneFault.{counted_once}
+use Rattle.network_demands.proofs.Told.{told_exactly, told_no, first_sentence}
+use Rattle.network_demands.proofs.Second.{late_answers, late_after_stall, second_sentence}
 use Rattle.network_demands.proofs.Third.{said_from, on_just_that_tick, said_from_the_third, on_the_third_tick}
 use Rattle.demands.specs.View.{view_of, views_of}
 use Rattle.demands.specs.Demands.{Begun, Demand3, Counting}
-use Rattle.demands.proofs.Parts.{own-slot}
-use Rattle.demands.proofs.Follow.{once, in_use, same-network, same-needs, follow, latest, sound, ran-since, in_range, distinct}
+use Rattle.demands.proofs.Parts.{own_slot}
+use Rattle.demands.proofs.Follow.{once, in_use, same_network, same_needs, follow, latest, sound, ran_since, in_range, distinct}
 
 -- ---- the views of a history that is split
 pub views_append : (n : Network) (s h : History) → views_of n (s ++ h) ≡ views_of n s ++ views_of n h
@@ -47,7 +47,7 @@ last_ticked m₀ m t h b s room q l =
     let k = latest m₀ m (t ∷ h) s t h refl in
     let call : k.call ≡ tick room = ap (λ (x : Entry). x.call) k.entry ∙ q in
     let f = follow m₀ k.on h b k.since in
-    let fits : tick_needs k.on ≤ room = subst (λ (needs : ℕ). needs ≤ room) (sym (same-needs m₀ k.on h f)) l in
+    let fits : tick_needs k.on ≤ room = subst (λ (needs : ℕ). needs ≤ room) (sym (same_needs m₀ k.on h f)) l in
     ap (λ (x : Entry). eqb 0 x.number) (sym k.entry) ∙ ap (λ (x : Call). is_accepted (outcome k.on x).answer) call
     ∙ tick_accepted k.on room f.started (le-ltb room (tick_needs k.on) fits)
 
@@ -57,13 +57,13 @@ module _ (m₀ : Manager) (b₀ : Begun m₀) (i : ℕ) (h₀ : i < length (netw
   n = network_at m₀ i
 
   split : (m : Manager) (s : History) (b : Entry) (h : History) → Since m₀ m (s ++ (b ∷ h)) → Ran n (views_of n s ++ (view_of n b ∷ views_of n h))
-  split m s b h r = subst (Ran n) (views_append n s (b ∷ h)) (ran-since m₀ b₀ i h₀ m (s ++ (b ∷ h)) r)
+  split m s b h r = subst (Ran n) (views_append n s (b ∷ h)) (ran_since m₀ b₀ i h₀ m (s ++ (b ∷ h)) r)
 
   -- with one call more
-  split-last : (m : Manager) (t : Entry) (s : History) (b : Entry) (h : History) → Since m₀ m (t ∷ (s ++ (b ∷ h)))
+  split_last : (m : Manager) (t : Entry) (s : History) (b : Entry) (h : History) → Since m₀ m (t ∷ (s ++ (b ∷ h)))
       → Ran n (view_of n t ∷ (views_of n s ++ (view_of n b ∷ views_of n h)))
-  split-last m t s b h r =
-      subst (λ (l : _). Ran n (view_of n t ∷ l)) (views_append n s (b ∷ h)) (ran-since m₀ b₀ i h₀ m (t ∷ (s ++ (b ∷ h))) r)
+  split_last m t s b h r =
+      subst (λ (l : _). Ran n (view_of n t ∷ l)) (views_append n s (b ∷ h)) (ran_since m₀ b₀ i h₀ m (t ∷ (s ++ (b ∷ h))) r)
 
   range : InRange n
   range = in_range m₀ b₀ i h₀
@@ -71,30 +71,30 @@ module _ (m₀ : Manager) (b₀ : Begun m₀) (i : ℕ) (h₀ : i < length (netw
   apart : Distinct (controllers_of n)
   apart = distinct m₀ b₀ i h₀
 
-  pub demand-3 : Demand3 m₀ n
-  demand-3 = record {
-    told_exactly = λ m h s. told_exactly n range apart (views_of n h) (ran-since m₀ b₀ i h₀ m h s);
-    told_no = λ m h s. told_no n range apart (views_of n h) (ran-since m₀ b₀ i h₀ m h s);
-    answered = λ m h s. first-sentence n range apart (views_of n h) (ran-since m₀ b₀ i h₀ m h s);
-    delayed = λ m s b h r. second-sentence n range apart (views_of n s) (view_of n b) (views_of n h) (split m s b h r);
+  pub demand_3 : Demand3 m₀ n
+  demand_3 = record {
+    told_exactly = λ m h s. told_exactly n range apart (views_of n h) (ran_since m₀ b₀ i h₀ m h s);
+    told_no = λ m h s. told_no n range apart (views_of n h) (ran_since m₀ b₀ i h₀ m h s);
+    answered = λ m h s. first_sentence n range apart (views_of n h) (ran_since m₀ b₀ i h₀ m h s);
+    delayed = λ m s b h r. second_sentence n range apart (views_of n s) (view_of n b) (views_of n h) (split m s b h r);
     late_answers = λ m s b h r. late_answers n range apart (views_of n s) (view_of n b) (views_of n h) (split m s b h r);
     ticks = λ m t h s room q l. rw (q, last_ticked m₀ m t h b₀ s room q (rw (tick_needs_paper m₀ (sound m₀ b₀)) l)) refl;
     on_just_that_tick = λ m t s b h r u.
-        on_just_that_tick n range apart (view_of n b) (views_of n h) u (view_of n t) (views_of n s) (split-last m t s b h r);
+        on_just_that_tick n range apart (view_of n b) (views_of n h) u (view_of n t) (views_of n s) (split_last m t s b h r);
     said_from = λ m s b h r u. said_from n range apart (view_of n b) (views_of n h) u (views_of n s) (split m s b h r);
     late_after_stall = λ m s b h r. late_after_stall n range apart (views_of n s) (view_of n b) (views_of n h) (split m s b h r);
     on_the_third_tick = λ m t s b h r x.
-        on_the_third_tick n range apart (view_of n b) (views_of n h) x (view_of n t) (views_of n s) (split-last m t s b h r);
+        on_the_third_tick n range apart (view_of n b) (views_of n h) x (view_of n t) (views_of n s) (split_last m t s b h r);
     said_from_the_third = λ m s b h r x. said_from_the_third n range apart (view_of n b) (views_of n h) x (views_of n s) (split m s b h r);
   }
 
   -- what poll answers is the mode last told, as it is read off the records
-  pub poll-tells : (m : Manager) (h : History) → Since m₀ m h → (entry_of m (poll n.handle)).mode ≡ told n (views_of n h)
+  pub poll_tells : (m : Manager) (h : History) → Since m₀ m h → (entry_of m (poll n.handle)).mode ≡ told n (views_of n h)
   unfolding outcome
-  poll-tells m h s =
+  poll_tells m h s =
       let f = follow m₀ m h b₀ s in
-      let own = ap (λ (k : Network). eqb k.handle n.handle) (same-network m₀ m h f i) ∙ eq-eqb n.handle n.handle refl in
-      let slot = own-slot m f.sound (once m₀ m h f) f.started i (in_use m₀ m h f i h₀) (Id.OfNetwork n.handle) own in
+      let own = ap (λ (k : Network). eqb k.handle n.handle) (same_network m₀ m h f i) ∙ eq-eqb n.handle n.handle refl in
+      let slot = own_slot m f.sound (once m₀ m h f) f.started i (in_use m₀ m h f i h₀) (Id.OfNetwork n.handle) own in
       ap (λ (x : Slot). (by_slot m x (λ j. polled m (state_at m j).told)).mode) slot
       ∙ ap (λ (t : State). mode_number t.told) (sym (f.state i h₀)) ∙ told_follows n (views_of n h) (f.ran i h₀)
 
@@ -113,5 +113,5 @@ module _ (m₀ : Manager) (b₀ : Begun m₀) (i : ℕ) (h₀ : i < length (netw
         let g = follow m₀ (outcome m c).manager (entry_of m c ∷ h) b₀ (goes m h c s) in
         ap (λ (t : State). t.count) (sym (g.state i h₀)) ∙ bus_off_raises n range e (views_of n h) (g.ran i h₀) fell
         ∙ ap (λ (t : State). cond (counts n e (views_of n h)) (min (suc t.count) 255) t.count) (f.state i h₀);
-    one_fault = λ m s b h r. counted-once n range (views_of n s) (view_of n b) (views_of n h) (split m s b h r);
+    one_fault = λ m s b h r. counted_once n range (views_of n s) (view_of n b) (views_of n h) (split m s b h r);
   }

@@ -52,24 +52,24 @@ record Reads (m : Manager) (bytes : List ℕ) (o : Outcome) : Type 0 where
   manager : o.manager ≡ loaded m (decode bytes).settings
 
 module _ (m : Manager) (bytes : List ℕ) where
-  by-verdict : (d : Reading) (v : Verdict) → d.answer ≡ v → (after_reading m d v).answer ≡ Answer.Accepted
+  by_verdict : (d : Reading) (v : Verdict) → d.answer ≡ v → (after_reading m d v).answer ≡ Answer.Accepted
       → (d.answer ≡ Verdict.Accepted) × ((after_reading m d v).manager ≡ loaded m d.settings)
-  by-verdict d Verdict.Accepted e a = (e, refl)
-  by-verdict d (Verdict.Refused fault) e a = absurd (let z : ◌≡◌ {A = ℕ} 0 1 = cc in omega arith)
+  by_verdict d Verdict.Accepted e a = (e, refl)
+  by_verdict d (Verdict.Refused fault) e a = absurd (let z : ◌≡◌ {A = ℕ} 0 1 = cc in omega arith)
 
   into : (read_into m bytes).answer ≡ Answer.Accepted → Reads m bytes (read_into m bytes)
   unfolding read_into
-  into a = let v = by-verdict (decode bytes) (decode bytes).answer refl a in record { accepted = v.0; manager = v.1 }
+  into a = let v = by_verdict (decode bytes) (decode bytes).answer refl a in record { accepted = v.0; manager = v.1 }
 
-  by-stage : (g : Stage) → (by_stage g (read_into m bytes) (read_into m bytes) (refused m Answer.Running)).answer ≡ Answer.Accepted
+  by_stage_lem : (g : Stage) → (by_stage g (read_into m bytes) (read_into m bytes) (refused m Answer.Running)).answer ≡ Answer.Accepted
       → Reads m bytes (by_stage g (read_into m bytes) (read_into m bytes) (refused m Answer.Running))
-  by-stage Stage.Empty a = into a
-  by-stage Stage.Loaded a = into a
-  by-stage Stage.Started a = absurd (let z : ◌≡◌ {A = ℕ} 0 1 = cc in omega arith)
+  by_stage_lem Stage.Empty a = into a
+  by_stage_lem Stage.Loaded a = into a
+  by_stage_lem Stage.Started a = absurd (let z : ◌≡◌ {A = ℕ} 0 1 = cc in omega arith)
 
-  accepted-reads : (outcome m (read bytes)).answer ≡ Answer.Accepted → Reads m bytes (outcome m (read bytes))
+  accepted_reads : (outcome m (read bytes)).answer ≡ Answer.Accepted → Reads m bytes (outcome m (read bytes))
   unfolding outcome
-  accepted-reads a = by-stage m.stage a
+  accepted_reads a = by_stage_lem m.stage a
 
 -- a call that is no accepted reading leaves the sheet as it is
 call_keeps : (s : Settings) (m : Manager) → Has s m → (c : Call)
@@ -128,18 +128,18 @@ record Writable (m : Manager) (room : ℕ) : Type 0 where
 
 accepted_writes : (m : Manager) (room : ℕ) → (outcome m (write room)).answer ≡ Answer.Accepted → Writable m room
 unfolding outcome writing_of
-accepted_writes m room a = of-stage m.stage refl a
+accepted_writes m room a = of_stage m.stage refl a
   where
     of_room : (b : Bool) → leb (length (encode (settings_of m))) room ≡ b → (writing_of m room).answer ≡ Answer.Accepted
         → length (encode (settings_of m)) ≤ room
     of_room true e a = leb-true (length (encode (settings_of m))) room e
     of_room false e a = absurd (let f = rw e at a in let z : ◌≡◌ {A = ℕ} 0 1 = cc in omega arith)
 
-    of-stage : (g : Stage) → m.stage ≡ g
+    of_stage : (g : Stage) → m.stage ≡ g
         → (by_stage g (refused m Answer.NotReady) (writing_of m room) (writing_of m room)).answer ≡ Answer.Accepted → Writable m room
-    of-stage Stage.Empty e a = absurd (let z : ◌≡◌ {A = ℕ} 0 1 = cc in omega arith)
-    of-stage Stage.Loaded e a = record { loaded = λ f. let z : ◌≡◌ {A = ℕ} 0 1 = cc in omega arith; fits = of_room _ refl a }
-    of-stage Stage.Started e a = record { loaded = λ f. let z : ◌≡◌ {A = ℕ} 0 1 = cc in omega arith; fits = of_room _ refl a }
+    of_stage Stage.Empty e a = absurd (let z : ◌≡◌ {A = ℕ} 0 1 = cc in omega arith)
+    of_stage Stage.Loaded e a = record { loaded = λ f. let z : ◌≡◌ {A = ℕ} 0 1 = cc in omega arith; fits = of_room _ refl a }
+    of_stage Stage.Started e a = record { loaded = λ f. let z : ◌≡◌ {A = ℕ} 0 1 = cc in omega arith; fits = of_room _ refl a }
 
 -- ---- from what code noted
 -- after an accepted reading and any calls up to the next one, the manager has a sheet, and it is the bytes that were read
@@ -153,7 +153,7 @@ lived_keeps m₀ m s e h bytes l read-them none =
     let c = cut m₀ m (s ++ (e ∷ h)) l s e h refl in
     let result : c.result ≡ outcome c.on (read bytes) = c.given ∙ ap (outcome c.on) read-them.call in
     let accepted = ap (λ (o : Outcome). o.answer) (sym result) ∙ number_accepted c.result.answer (c.number ∙ read-them.accepted) in
-    let reads = accepted-reads c.on bytes accepted in
+    let reads = accepted_reads c.on bytes accepted in
     let new : c.result.manager ≡ loaded c.on (decode bytes).settings = ap (λ (o : Outcome). o.manager) result ∙ reads.manager in
     let had : Has (decode bytes).settings c.result.manager =
     subst (Has (decode bytes).settings) (sym new) (record { loaded = λ f. absurd (let z : ◌≡◌ {A = ℕ} 0 1 = cc in omega arith); settings = refl }) in

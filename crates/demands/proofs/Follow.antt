@@ -15,15 +15,15 @@ use Rattle.slots.specs.declared.Outcome.{Outcome}
 use Rattle.slots.specs.Manager.{networks_of, settings_of, network_at, state_at, refused, accepted, summed, share, tick_needs}
 use Rattle.slots.specs.Calls.{Call, start, by_stage, started_from, outcome}
 use Rattle.calls.specs.Histories.{Entry, entry_of, History, Since, begun, goes}
-use Rattle.slots.proofs.Own.{slot_network, each-slot}
+use Rattle.slots.proofs.Own.{slot_network, each_slot}
 use Rattle.manager_theorems.specs.Careful.{Sound}
-use Rattle.manager_theorems.proofs.Sound.{slot_in_range, call-sound, call_settled, reached_sound}
+use Rattle.manager_theorems.proofs.Sound.{slot_in_range, call_sound, call_settled, reached_sound}
 use Rattle.network_demands.specs.Own.{played, state_of, Fits, Ran}
 use Rattle.network_demands.proofs.Slots.{fresh_distinct}
 use Rattle.demands.specs.View.{view_of, views_of}
 use Rattle.demands.specs.Demands.{Begun}
 use Rattle.demands.proofs.Apart.{Once}
-use Rattle.demands.proofs.Parts.{entry-fits}
+use Rattle.demands.proofs.Parts.{entry_fits}
 
 -- ---- a manager that was just started
 -- a start that is accepted is one of a manager that has a sheet and was not started
@@ -51,7 +51,7 @@ begins_at m s t = record {
   started = refl;
   settings = refl;
   sound = t;
-  state = λ i h. sym (each-slot m (λ n s. started-state n) s.networks s.states i h);
+  state = λ i h. sym (each_slot m (λ n s. started-state n) s.networks s.states i h);
   ran = λ i h. tt;
 }
 
@@ -59,16 +59,16 @@ begins : (m₀ : Manager) → Begun m₀ → Tracked m₀ m₀ []
 begins m₀ b =
     let s = reached_sound b.before b.reached in
     let e : (outcome b.before start).manager ≡ started_from b.before = ap (λ (o : Outcome). o.manager) (start_is b.before b.accepted) in
-    let t = call-sound b.before s start (λ bytes q f. absurd (let z : ◌≡◌ {A = ℕ} 0 1 = cc in omega arith)) in
+    let t = call_sound b.before s start (λ bytes q f. absurd (let z : ◌≡◌ {A = ℕ} 0 1 = cc in omega arith)) in
     subst (λ (m : Manager). Tracked m m []) (sym (b.same ∙ e)) (begins_at b.before s (subst Sound e t))
 
 module _ (m₀ m : Manager) (h : History) (f : Tracked m₀ m h) where
-  pub same-network : (i : ℕ) → network_at m i ≡ network_at m₀ i
-  same-network i = ap (λ (s : Settings). get_or s.networks i blank_network) f.settings
+  pub same_network : (i : ℕ) → network_at m i ≡ network_at m₀ i
+  same_network i = ap (λ (s : Settings). get_or s.networks i blank_network) f.settings
 
-  pub same-needs : tick_needs m ≡ tick_needs m₀
+  pub same_needs : tick_needs m ≡ tick_needs m₀
   unfolding tick_needs
-  same-needs = ap (λ (s : Settings). 3 * summed share (take s.count s.networks)) f.settings
+  same_needs = ap (λ (s : Settings). 3 * summed share (take s.count s.networks)) f.settings
 
   pub in_use : (i : ℕ) → i < length (networks_of m₀) → i < length (networks_of m)
   in_use i l = subst (λ (s : Settings). i < length (take s.count s.networks)) (sym f.settings) l
@@ -84,7 +84,7 @@ module _ (m₀ m : Manager) (h : History) (f : Tracked m₀ m h) where
       × (state_at (outcome m c).manager i ≡ (played (network_at m₀ i) (state_at m i) (view_of (network_at m₀ i) (entry_of m c)).sight).state)
   part c i l =
       subst (λ (n : Network). Fits n (state_at m i) (view_of n (entry_of m c)) × (state_at (outcome m c).manager i ≡ (played n
-      (state_at m i) (view_of n (entry_of m c)).sight).state)) (same-network i) (entry-fits m f.sound once f.started i (in_use i l) c)
+      (state_at m i) (view_of n (entry_of m c)).sight).state)) (same_network i) (entry_fits m f.sound once f.started i (in_use i l) c)
 
   goes_on : (c : Call) → Tracked m₀ (outcome m c).manager (entry_of m c ∷ h)
   unfolding state_of Ran
@@ -93,7 +93,7 @@ module _ (m₀ m : Manager) (h : History) (f : Tracked m₀ m h) where
       record {
         started = k.0;
         settings = k.1 ∙ f.settings;
-        sound = call-sound m f.sound c (λ bytes e g. absurd (g f.started));
+        sound = call_sound m f.sound c (λ bytes e g. absurd (g f.started));
         state = λ i l. ap (λ (s : State). (played (network_at m₀ i) s (view_of (network_at m₀ i) (entry_of m c)).sight).state) (f.state i l)
             ∙ sym (part c i l).1;
         ran = λ i l. (
@@ -138,8 +138,8 @@ module _ (m₀ : Manager) (b : Begun m₀) where
 
   module _ (i : ℕ) (l : i < length (networks_of m₀)) where
     -- a history since the start, as the network sees it
-    pub ran-since : (m : Manager) (h : History) → Since m₀ m h → Ran (network_at m₀ i) (views_of (network_at m₀ i) h)
-    ran-since m h s = (follow m₀ m h b s).ran i l
+    pub ran_since : (m : Manager) (h : History) → Since m₀ m h → Ran (network_at m₀ i) (views_of (network_at m₀ i) h)
+    ran_since m h s = (follow m₀ m h b s).ran i l
 
     pub in_range : InRange (network_at m₀ i)
     in_range = slot_in_range m₀ sound i l

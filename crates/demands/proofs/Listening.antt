@@ -16,7 +16,7 @@ use Rattle.steps.specs.declared.Step.TheVariants.{CheckWake, CheckWakeAgain, Res
 use Rattle.steps.specs.Steps.{step_number, is_online_step}
 use Rattle.handing.specs.declared.Round.{Round}
 use Rattle.handing.specs.Handing.{round_record, online, online_in, targets_of, own_record}
-use Rattle.handing.proofs.Laws.{online-own}
+use Rattle.handing.proofs.Laws.{online_own}
 use Rattle.network.specs.declared.State.{State}
 use Rattle.slots.specs.declared.Stage.{Stage}
 use Rattle.slots.specs.declared.Answer.{Answer}
@@ -35,14 +35,14 @@ use Rattle.network_demands.proofs.Follows.{state_kept}
 use Rattle.network_theorems.specs.Kept.{Kept}
 use Rattle.network_demands.proofs.Arrows.{suits, own_outfit}
 use Rattle.network_demands.proofs.Standing.{stands}
-use Rattle.network_demands.proofs.Online.{sending_means, pdu_same, pdu_each, StaysOnline, hands_online, finds_online, stays-online}
+use Rattle.network_demands.proofs.Online.{sending_means, pdu_same, pdu_each, StaysOnline, hands_online, finds_online, stays_online}
 use Rattle.demands.specs.View.{keep, is_turned, unturned, view_of, views_of}
 use Rattle.demands.specs.Demands.{Begun}
 use Rattle.demands.specs.Listening.{online_as, last_pdu, left_out, without, Listening, ListensIn}
 use Rattle.demands.proofs.Apart.{Once}
-use Rattle.demands.proofs.Parts.{own-gathered}
-use Rattle.demands.proofs.Switches.{refused_leaves, call_switches, call-quiet, call-aloud, view-plain, handed-turned, call-hushed, entry-hushed}
-use Rattle.demands.proofs.Follow.{Tracked, same-network, in_use, once, part, follow, latest, in_range}
+use Rattle.demands.proofs.Parts.{own_gathered}
+use Rattle.demands.proofs.Switches.{refused_leaves, call_switches, call_quiet, call_aloud, view_plain, handed_turned, call_hushed, entry_hushed}
+use Rattle.demands.proofs.Follow.{Tracked, same_network, in_use, once, part, follow, latest, in_range}
 
 -- ---- a call that sets or clears it
 pub no_turn : {A : Type 0} {to : Bool} → leaves ≡ turns to → A
@@ -93,18 +93,18 @@ module _ (m : Manager) (started : m.stage ≡ Stage.Started) where
       })
 
   -- where nothing changes nothing goes out
-  turn-again : (c : Call) (to : Bool) → switch_of (entry_of m c).number c ≡ turns to → m.listening ≡ to → handed_out m c ≡ []
+  turn_again : (c : Call) (to : Bool) → switch_of (entry_of m c).number c ≡ turns to → m.listening ≡ to → handed_out m c ≡ []
   unfolding online_anew
-  turn-again = by_turn (λ to rs. m.listening ≡ to → rs ≡ []) (λ to e. by_value_lem to e)
+  turn_again = by_turn (λ to rs. m.listening ≡ to → rs ≡ []) (λ to e. by_value_lem to e)
     where
       by_value_lem : (to : Bool) → m.listening ≡ to → map (turned to) (cond (changes m.listening to) (all_online m) []) ≡ []
       by_value_lem true e = rw e refl
       by_value_lem false e = rw e refl
 
   -- where it changes it hands out online for each network in a step for it
-  turn-anew : (c : Call) (to : Bool) → switch_of (entry_of m c).number c ≡ turns to → m.listening ≡ not to → handed_out m c ≡ map (turned to) (all_online m)
+  turn_anew : (c : Call) (to : Bool) → switch_of (entry_of m c).number c ≡ turns to → m.listening ≡ not to → handed_out m c ≡ map (turned to) (all_online m)
   unfolding online_anew
-  turn-anew = by_turn (λ to rs. m.listening ≡ not to → rs ≡ map (turned to) (all_online m)) (λ to e. by_value_lem to e)
+  turn_anew = by_turn (λ to rs. m.listening ≡ not to → rs ≡ map (turned to) (all_online m)) (λ to e. by_value_lem to e)
     where
       by_value_lem : (to : Bool) → m.listening ≡ not to
           → map (turned to) (cond (changes m.listening to) (all_online m) []) ≡ map (turned to) (all_online m)
@@ -115,25 +115,25 @@ module _ (m : Manager) (started : m.stage ≡ Stage.Started) where
 -- whose a record is goes by its kind and its target
 own_turned : (n : Network) (listening : Bool) (r : Record) → own_record n (turned listening r) ≡ own_record n r
 unfolding turned own_record
-own_turned n listening r = by-test (listening && is_online r) refl
+own_turned n listening r = by_test (listening && is_online r) refl
   where
-    by-test : (b : Bool) → listening && is_online r ≡ b → own_record n (cond b (listens r.target) r) ≡ own_record n r
-    by-test true e =
+    by_test : (b : Bool) → listening && is_online r ≡ b → own_record n (cond b (listens r.target) r) ≡ own_record n r
+    by_test true e =
         let kind = eqb-true 3 r.kind (and_both (eqb 3 r.kind) _ (and_both listening _ e).1).0 in
         ap (λ (k : ℕ). member r.target (targets_of n k)) kind
-    by-test false e = refl
+    by_test false e = refl
 
 pub keep_turned : (n : Network) (listening : Bool) (rs : List Record) → keep (own_record n) (map (turned listening) rs)
     ≡ map (turned listening) (keep (own_record n) rs)
 unfolding keep
 keep_turned n listening [] = refl
-keep_turned n listening (r ∷ rs) = rw (own_turned n listening r) (by-test (own_record n r) (keep_turned n listening rs))
+keep_turned n listening (r ∷ rs) = rw (own_turned n listening r) (by_test (own_record n r) (keep_turned n listening rs))
   where
-    by-test : (b : Bool) → keep (own_record n) (map (turned listening) rs) ≡ map (turned listening) (keep (own_record n) rs)
+    by_test : (b : Bool) → keep (own_record n) (map (turned listening) rs) ≡ map (turned listening) (keep (own_record n) rs)
         → cond b (turned listening r ∷ keep (own_record n) (map (turned listening) rs)) (keep (own_record n) (map (turned listening) rs))
         ≡ map (turned listening) (cond b (r ∷ keep (own_record n) rs) (keep (own_record n) rs))
-    by-test true later = ap (λ (l : List Record). turned listening r ∷ l) later
-    by-test false later = later
+    by_test true later = ap (λ (l : List Record). turned listening r ∷ l) later
+    by_test false later = later
 
 -- online for a network, as it goes out
 each_turned : (listening : Bool) (ids : List ℕ) → map (turned listening) (map (round_record (Round.Pdu online)) ids)
@@ -146,12 +146,12 @@ each_turned false (id ∷ ids) = ap (λ (l : List Record). handed 3 id 0 ∷ l) 
 online_turned : (n : Network) (step : Step) (listening : Bool)
     → map (turned listening) (online_in n step) ≡ cond (is_online_step step) (map (λ (c : ℕ). handed 3 c (online_as listening)) (controllers_of n)) []
 unfolding online_in
-online_turned n step listening = by-step (is_online_step step)
+online_turned n step listening = by_step (is_online_step step)
   where
-    by-step : (b : Bool) → map (turned listening) (cond b (map (round_record (Round.Pdu online)) (controllers_of n)) [])
+    by_step : (b : Bool) → map (turned listening) (cond b (map (round_record (Round.Pdu online)) (controllers_of n)) [])
         ≡ cond b (map (λ (c : ℕ). handed 3 c (online_as listening)) (controllers_of n)) []
-    by-step true = each_turned listening (controllers_of n)
-    by-step false = refl
+    by_step true = each_turned listening (controllers_of n)
+    by_step false = refl
 
 -- ---- the last record of kind 3 for a controller
 -- a record of kind 3 for one of the network's controllers is the network's own
@@ -174,14 +174,14 @@ own_pdu : (n : Network) (c : ℕ) → member c (controllers_of n) ≡ true → (
     → pdu_by c (keep (own_record n) rs) before ≡ pdu_by c rs before
 unfolding pdu_by keep
 own_pdu n c own [] before = refl
-own_pdu n c own (r ∷ rs) before = by-test (own_record n r) refl (eqb 3 r.kind && eqb c r.target) refl (own_pdu n c own rs)
+own_pdu n c own (r ∷ rs) before = by_test (own_record n r) refl (eqb 3 r.kind && eqb c r.target) refl (own_pdu n c own rs)
   where
-    by-test : (b : Bool) → own_record n r ≡ b → (x : Bool) → eqb 3 r.kind && eqb c r.target ≡ x
+    by_test : (b : Bool) → own_record n r ≡ b → (x : Bool) → eqb 3 r.kind && eqb c r.target ≡ x
         → ((before : ℕ) → pdu_by c (keep (own_record n) rs) before ≡ pdu_by c rs before)
         → pdu_by c (cond b (r ∷ keep (own_record n) rs) (keep (own_record n) rs)) before ≡ pdu_by c (r ∷ rs) before
-    by-test true e x f later = later _
-    by-test false e true f later = absurd (true≢false (sym (pdu_own n c r own f) ∙ e))
-    by-test false e false f later = later before ∙ sym (pdu_more c r rs before false f)
+    by_test true e x f later = later _
+    by_test false e true f later = absurd (true≢false (sym (pdu_own n c r own f) ∙ e))
+    by_test false e false f later = later before ∙ sym (pdu_more c r rs before false f)
 
 -- an argument as it goes out
 abbrev raised : Bool → ℕ → ℕ
@@ -208,63 +208,63 @@ one_turned : (c : ℕ) (listening : Bool) (r : Record)
     × (eqb 3 r.kind && eqb c r.target ≡ true → (turned listening r).argument ≡ raised listening r.argument)
 unfolding turned
 one_turned c false r = (refl, λ e. refl)
-one_turned c true r = by-test (eqb 3 r.kind) (eqb 0 r.argument) refl refl
+one_turned c true r = by_test (eqb 3 r.kind) (eqb 0 r.argument) refl refl
   where
-    by-test : (k a : Bool) → eqb 3 r.kind ≡ k → eqb 0 r.argument ≡ a
+    by_test : (k a : Bool) → eqb 3 r.kind ≡ k → eqb 0 r.argument ≡ a
         → (eqb 3 (cond (k && a) (listens r.target) r).kind && eqb c (cond (k && a) (listens r.target) r).target
         ≡ k && eqb c r.target)
         × (k && eqb c r.target ≡ true → (cond (k && a) (listens r.target) r).argument ≡ cond a 2 r.argument)
-    by-test true true p q = (refl, λ e. refl)
-    by-test true false p q = (rw p refl, λ e. refl)
-    by-test false a p q = (rw p refl, λ e. absurd (false≢true e))
+    by_test true true p q = (refl, λ e. refl)
+    by_test true false p q = (rw p refl, λ e. refl)
+    by_test false a p q = (rw p refl, λ e. absurd (false≢true e))
 
 pdu_agrees : (c : ℕ) (l : Bool) (rs : List Record) (out made : ℕ) → Agree c l rs out made
 unfolding pdu_by
 pdu_agrees c l [] out made = inr (refl, refl)
-pdu_agrees c l (r ∷ rs) out made = by-test (eqb 3 r.kind && eqb c r.target) refl (pdu_agrees c l rs)
+pdu_agrees c l (r ∷ rs) out made = by_test (eqb 3 r.kind && eqb c r.target) refl (pdu_agrees c l rs)
   where
-    by-test : (b : Bool) → eqb 3 r.kind && eqb c r.target ≡ b → ((out made : ℕ) → Agree c l rs out made) → Agree c l (r ∷ rs) out made
-    by-test true e later = decided (later (raised l r.argument) r.argument)
+    by_test : (b : Bool) → eqb 3 r.kind && eqb c r.target ≡ b → ((out made : ℕ) → Agree c l rs out made) → Agree c l (r ∷ rs) out made
+    by_test true e later = decided (later (raised l r.argument) r.argument)
       where
-        goes-out : pdu_by c (map (turned l) (r ∷ rs)) out ≡ pdu_by c (map (turned l) rs) (raised l r.argument)
-        goes-out = pdu_more c (turned l r) (map (turned l) rs) out true ((one_turned c l r).0 ∙ e)
+        goes_out : pdu_by c (map (turned l) (r ∷ rs)) out ≡ pdu_by c (map (turned l) rs) (raised l r.argument)
+        goes_out = pdu_more c (turned l r) (map (turned l) rs) out true ((one_turned c l r).0 ∙ e)
             ∙ ap (pdu_by c (map (turned l) rs)) ((one_turned c l r).1 e)
 
         is_made : pdu_by c (r ∷ rs) made ≡ pdu_by c rs r.argument
         is_made = pdu_more c r rs made true e
 
         decided : Agree c l rs (raised l r.argument) r.argument → Agree c l (r ∷ rs) out made
-        decided (inl p) = inl (goes-out ∙ p ∙ ap (raised l) (sym is_made))
-        decided (inr p) = inl (goes-out ∙ p.0 ∙ ap (raised l) (sym (is_made ∙ p.1)))
-    by-test false e later = passed (later out made)
+        decided (inl p) = inl (goes_out ∙ p ∙ ap (raised l) (sym is_made))
+        decided (inr p) = inl (goes_out ∙ p.0 ∙ ap (raised l) (sym (is_made ∙ p.1)))
+    by_test false e later = passed (later out made)
       where
-        goes-out : pdu_by c (map (turned l) (r ∷ rs)) out ≡ pdu_by c (map (turned l) rs) out
-        goes-out = pdu_more c (turned l r) (map (turned l) rs) out false ((one_turned c l r).0 ∙ e)
+        goes_out : pdu_by c (map (turned l) (r ∷ rs)) out ≡ pdu_by c (map (turned l) rs) out
+        goes_out = pdu_more c (turned l r) (map (turned l) rs) out false ((one_turned c l r).0 ∙ e)
 
         is_made : pdu_by c (r ∷ rs) made ≡ pdu_by c rs made
         is_made = pdu_more c r rs made false e
 
         passed : Agree c l rs out made → Agree c l (r ∷ rs) out made
-        passed (inl p) = inl (goes-out ∙ p ∙ ap (raised l) (sym is_made))
-        passed (inr p) = inr (goes-out ∙ p.0, is_made ∙ p.1)
+        passed (inl p) = inl (goes_out ∙ p ∙ ap (raised l) (sym is_made))
+        passed (inr p) = inr (goes_out ∙ p.0, is_made ∙ p.1)
 
 -- ---- the whole manager
 module _ (m₀ : Manager) (b : Begun m₀) where
   -- the start clears it
-  pub starts-deaf : m₀.listening ≡ false
-  starts-deaf =
+  pub starts_deaf : m₀.listening ≡ false
+  starts_deaf =
       ap (λ (m : Manager). m.listening) b.same ∙ call_switches b.before start
       ∙ ap (λ (a : Answer). switched (switch_of (answer_number a) start) b.before.listening) b.accepted
 
   shared : (m : Manager) (h : History) → Since m₀ m h → m.listening ≡ listening h
   unfolding listening
-  shared _ _ begun = starts-deaf
+  shared _ _ begun = starts_deaf
   shared _ _ (goes m h c s) = call_switches m c ∙ ap (switched (switch_of (entry_of m c).number c)) (shared m h s)
 
   -- what holds of the records of the latest call, by whether the manager listens after it
-  of-latest : (listens : Bool) (p : Record → Bool) → ((m : Manager) (c : Call) → (outcome m c).manager.listening ≡ listens → any p (handed_out m c) ≡ false)
+  of_latest : (listens : Bool) (p : Record → Bool) → ((m : Manager) (c : Call) → (outcome m c).manager.listening ≡ listens → any p (handed_out m c) ≡ false)
       → (m : Manager) (e : Entry) (h : History) → Since m₀ m (e ∷ h) → listening (e ∷ h) ≡ listens → any p e.records ≡ false
-  of-latest listens p f m e h s l =
+  of_latest listens p f m e h s l =
       let k = latest m₀ m (e ∷ h) s e h refl in
       ap (λ (x : Entry). any p x.records) (sym k.entry)
       ∙ f k.on k.call (ap (λ (x : Manager). x.listening) (sym k.manager) ∙ shared m (e ∷ h) s ∙ l)
@@ -276,33 +276,33 @@ module _ (m₀ : Manager) (b : Begun m₀) where
     where
       deaf : with_listening m₀ false ≡ m₀
       deaf = λ i.
-          record { stage = m₀.stage; listening = sym starts-deaf i; count = m₀.count; networks = m₀.networks; states = m₀.states }
+          record { stage = m₀.stage; listening = sym starts_deaf i; count = m₀.count; networks = m₀.networks; states = m₀.states }
   nothing_else _ _ (goes m h c s) =
-      by-switch (switch_of (entry_of m c).number c) refl (follow m₀ m h b s).started (nothing_else m h s)
+      by_switch (switch_of (entry_of m c).number c) refl (follow m₀ m h b s).started (nothing_else m h s)
     where
-      by-switch : (x : Switch) → switch_of (entry_of m c).number c ≡ x → m.stage ≡ Stage.Started → Since m₀ (with_listening m false) (without h)
+      by_switch : (x : Switch) → switch_of (entry_of m c).number c ≡ x → m.stage ≡ Stage.Started → Since m₀ (with_listening m false) (without h)
           → Since m₀ (with_listening (outcome m c).manager false) (left_out x (entry_of m c) (without h))
-      by-switch (turns to) e g k = subst (λ (y : Manager). Since m₀ y (without h)) (sym (turn_alone m g c to e)) k
-      by-switch leaves e g k =
+      by_switch (turns to) e g k = subst (λ (y : Manager). Since m₀ y (without h)) (sym (turn_alone m g c to e)) k
+      by_switch leaves e g k =
           let plain : Entry = record {
             call = c;
             number = (entry_of m c).number;
             mode = (entry_of m c).mode;
             records = map unturned (handed_out m c);
           } in
-          subst (λ (y : Manager). Since m₀ y (plain ∷ without h)) (ap (λ (o : Outcome). o.manager) (call-hushed m c e))
-          (subst (λ (x : Entry). Since m₀ (outcome (with_listening m false) c).manager (x ∷ without h)) (entry-hushed m c e)
+          subst (λ (y : Manager). Since m₀ y (plain ∷ without h)) (ap (λ (o : Outcome). o.manager) (call_hushed m c e))
+          (subst (λ (x : Entry). Since m₀ (outcome (with_listening m false) c).manager (x ∷ without h)) (entry_hushed m c e)
           (goes (with_listening m false) (without h) c k))
 
-  pub listening-since : Listening m₀
-  listening-since = record {
+  pub listening_since : Listening m₀
+  listening_since = record {
     shared = shared;
-    quiet = of-latest true is_online call-quiet;
-    aloud = of-latest false is_turned call-aloud;
+    quiet = of_latest true is_online call_quiet;
+    aloud = of_latest false is_turned call_aloud;
     not_again = λ m e h s to.
         let k = latest m₀ m (e ∷ h) s e h refl in
         subst (λ (y : Entry). switch_of y.number y.call ≡ turns to → listening h ≡ to → y.records ≡ []) k.entry
-        (λ x l. turn-again k.on (follow m₀ k.on h b k.since).started k.call to x (shared k.on h k.since ∙ l));
+        (λ x l. turn_again k.on (follow m₀ k.on h b k.since).started k.call to x (shared k.on h k.since ∙ l));
     nothing_else = nothing_else;
   }
 
@@ -340,7 +340,7 @@ own_anew : (m : Manager) → Sound m → Once (networks_of m) → m.stage ≡ St
 unfolding all_online
 own_anew m sound once started i used to =
     keep_turned (network_at m i) to _
-    ∙ ap (map (turned to)) (own-gathered m sound once started i used (λ (n : Network) (s : State). online_in n s.step) (λ n s. online-own n s.step))
+    ∙ ap (map (turned to)) (own_gathered m sound once started i used (λ (n : Network) (s : State). online_in n s.step) (λ n s. online_own n s.step))
     ∙ online_turned (network_at m i) (state_at m i).step to
 
 module _ (m₀ : Manager) (b : Begun m₀) (i : ℕ) (used : i < length (networks_of m₀)) where
@@ -354,24 +354,24 @@ module _ (m₀ : Manager) (b : Begun m₀) (i : ℕ) (used : i < length (network
       sending_means n (in_range m₀ b i used) (views_of n h) (f.ran i used) ∙ ap (λ (t : State). is_online_step t.step) (f.state i used)
 
   -- what a call that changes it hands out to the network
-  anew-call : (m : Manager) (h : History) → Since m₀ m h → (c : Call) (to : Bool) → switch_of (entry_of m c).number c ≡ turns to
+  anew_call : (m : Manager) (h : History) → Since m₀ m h → (c : Call) (to : Bool) → switch_of (entry_of m c).number c ≡ turns to
       → listening h ≡ not to → keep (own_record n) (handed_out m c)
       ≡ cond (sending n (views_of n h)) (map (λ (x : ℕ). handed 3 x (online_as to)) (controllers_of n)) []
-  anew-call m h s c to x l =
+  anew_call m h s c to x l =
       let f = follow m₀ m h b s in
-      ap (keep (own_record n)) (turn-anew m f.started c to x (shared m₀ b m h s ∙ l))
+      ap (keep (own_record n)) (turn_anew m f.started c to x (shared m₀ b m h s ∙ l))
       ∙ subst (λ (k : Network). keep (own_record k) (map (turned to) (all_online m))
-      ≡ cond (is_online_step (state_at m i).step) (map (λ (y : ℕ). handed 3 y (online_as to)) (controllers_of k)) []) (same-network m₀ m h f i)
+      ≡ cond (is_online_step (state_at m i).step) (map (λ (y : ℕ). handed 3 y (online_as to)) (controllers_of k)) []) (same_network m₀ m h f i)
       (own_anew m f.sound (once m₀ m h f) f.started i (in_use m₀ m h f i used) to)
       ∙ ap (λ (z : Bool). cond z (map (λ (y : ℕ). handed 3 y (online_as to)) (controllers_of n)) []) (sym (in_step m h s))
 
   -- ---- the last that each controller was handed
   module _ (c : ℕ) (own : member c (controllers_of n) ≡ true) where
     -- a call that leaves it as it was, as the network sees it
-    kept-last : (m : Manager) (h : History) → Since m₀ m h → (call : Call) → switch_of (entry_of m call).number call ≡ leaves
+    kept_last : (m : Manager) (h : History) → Since m₀ m h → (call : Call) → switch_of (entry_of m call).number call ≡ leaves
         → (sending n (views_of n h) ≡ true → last_pdu c h ≡ online_as (listening h)) → is_online_step (state_at (outcome m call).manager i).step ≡ true
         → pdu_by c (handed_out m call) (last_pdu c h) ≡ online_as (listening h)
-    kept-last m h s call x before online-now = by_entry (stays-online n (state_at m i) suited kept view fits step_after_lem)
+    kept_last m h s call x before online-now = by_entry (stays_online n (state_at m i) suited kept view fits step_after_lem)
       where
         f : Tracked m₀ m h
         f = follow m₀ m h b s
@@ -395,10 +395,10 @@ module _ (m₀ : Manager) (b : Begun m₀) (i : ℕ) (used : i < length (network
         step_after_lem = ap (λ (t : State). is_online_step t.step) (sym (part m₀ m h f call i used).1) ∙ online-now
 
         seen_by : (a : ℕ) → pdu_by c (by_rules m call) a ≡ pdu_by c view.records a
-        seen_by a = sym (ap (λ (rs : List Record). pdu_by c rs a) (view-plain m call n x) ∙ own_pdu n c own (by_rules m call) a)
+        seen_by a = sym (ap (λ (rs : List Record). pdu_by c rs a) (view_plain m call n x) ∙ own_pdu n c own (by_rules m call) a)
 
         out : handed_out m call ≡ map (turned (listening h)) (by_rules m call)
-        out = handed-turned m call (listening h)
+        out = handed_turned m call (listening h)
             (call_switches m call ∙ ap (λ (y : Switch). switched y m.listening) x ∙ shared m₀ b m h s)
 
         by_entry : StaysOnline n (state_at m i) view → pdu_by c (handed_out m call) (last_pdu c h) ≡ online_as (listening h)
@@ -425,45 +425,45 @@ module _ (m₀ : Manager) (b : Begun m₀) (i : ℕ) (used : i < length (network
             decided (inr p) = p.0 ∙ earlier
 
     -- a call that sets or clears it, in such a step: the record of the network stays
-    turned-last : (m : Manager) (h : History) → Since m₀ m h → (call : Call) (to : Bool) → switch_of (entry_of m call).number call ≡ turns to
+    turned_last : (m : Manager) (h : History) → Since m₀ m h → (call : Call) (to : Bool) → switch_of (entry_of m call).number call ≡ turns to
         → sending n (views_of n h) ≡ true → last_pdu c h ≡ online_as (listening h) → pdu_by c (handed_out m call) (last_pdu c h) ≡ online_as to
     unfolding pdu_by
-    turned-last m h s call to x now earlier = by-change (listening h) refl to x
+    turned_last m h s call to x now earlier = by_change (listening h) refl to x
       where
         same : (l : Bool) → listening h ≡ l → switch_of (entry_of m call).number call ≡ turns l → pdu_by c (handed_out m call) (last_pdu c h) ≡ online_as l
         same l p y =
-            ap (λ (rs : List Record). pdu_by c rs (last_pdu c h)) (turn-again m (follow m₀ m h b s).started call l y (shared m₀ b m h s ∙ p))
+            ap (λ (rs : List Record). pdu_by c rs (last_pdu c h)) (turn_again m (follow m₀ m h b s).started call l y (shared m₀ b m h s ∙ p))
             ∙ earlier ∙ ap online_as p
 
         other : (l : Bool) → listening h ≡ not l → switch_of (entry_of m call).number call ≡ turns l → pdu_by c (handed_out m call) (last_pdu c h) ≡ online_as l
         other l p y =
             sym (own_pdu n c own (handed_out m call) (last_pdu c h))
-            ∙ ap (λ (rs : List Record). pdu_by c rs (last_pdu c h)) (anew-call m h s call l y p
+            ∙ ap (λ (rs : List Record). pdu_by c rs (last_pdu c h)) (anew_call m h s call l y p
             ∙ ap (λ (z : Bool). cond z (map (λ (k : ℕ). handed 3 k (online_as l)) (controllers_of n)) []) now)
             ∙ pdu_each c (online_as l) (controllers_of n) (last_pdu c h) ∙ ap (λ (z : Bool). cond z (online_as l) (last_pdu c h)) own
 
-        by-change : (was : Bool) → listening h ≡ was → (l : Bool) → switch_of (entry_of m call).number call ≡ turns l
+        by_change : (was : Bool) → listening h ≡ was → (l : Bool) → switch_of (entry_of m call).number call ≡ turns l
             → pdu_by c (handed_out m call) (last_pdu c h) ≡ online_as l
-        by-change true p true y = same true p y
-        by-change true p false y = other false p y
-        by-change false p true y = other true p y
-        by-change false p false y = same false p y
+        by_change true p true y = same true p y
+        by_change true p false y = other false p y
+        by_change false p true y = other true p y
+        by_change false p false y = same false p y
 
     last : (m : Manager) (h : History) → Since m₀ m h → sending n (views_of n h) ≡ true → last_pdu c h ≡ online_as (listening h)
     unfolding last_pdu listening
     last _ _ begun now = absurd (false≢true (sym (unsent n) ∙ now))
-    last _ _ (goes m h call s) now = by-switch (switch_of (entry_of m call).number call) refl (λ z. last m h s z) (in_step _ _ (goes m h call s))
+    last _ _ (goes m h call s) now = by_switch (switch_of (entry_of m call).number call) refl (λ z. last m h s z) (in_step _ _ (goes m h call s))
       where
-        by-switch : (x : Switch) → switch_of (entry_of m call).number call ≡ x
+        by_switch : (x : Switch) → switch_of (entry_of m call).number call ≡ x
             → (sending n (views_of n h) ≡ true → last_pdu c h ≡ online_as (listening h))
             → sending n (views_of n (entry_of m call ∷ h)) ≡ is_online_step (state_at (outcome m call).manager i).step
             → pdu_by c (handed_out m call) (last_pdu c h) ≡ online_as (switched x (listening h))
-        by-switch leaves x before step = kept-last m h s call x before (sym step ∙ now)
-        by-switch (turns to) x before step =
+        by_switch leaves x before step = kept_last m h s call x before (sym step ∙ now)
+        by_switch (turns to) x before step =
             let f = follow m₀ m h b s in
             let stays : sending n (views_of n h) ≡ true = in_step m h s ∙ ap (λ (ts : List State). is_online_step (get_or ts i blank_state).step)
             (sym (ap (λ (y : Manager). y.states) (turn_alone m f.started call to x))) ∙ sym step ∙ now in
-            turned-last m h s call to x stays (before stays)
+            turned_last m h s call to x stays (before stays)
 
   pub listens_in : ListensIn m₀ i
   listens_in = record {
@@ -473,5 +473,5 @@ module _ (m₀ : Manager) (b : Begun m₀) (i : ℕ) (used : i < length (network
         let k = latest m₀ m (e ∷ h) s e h refl in
         subst (λ (y : Entry). switch_of y.number y.call ≡ turns to → listening h ≡ not to → keep (own_record n) y.records
         ≡ cond (sending n (views_of n h)) (map (λ (c : ℕ). handed 3 c (online_as to)) (controllers_of n)) []) k.entry
-        (λ x l. anew-call k.on h k.since k.call to x l);
+        (λ x l. anew_call k.on h k.since k.call to x l);
   }

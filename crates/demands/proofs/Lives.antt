@@ -9,9 +9,9 @@ use Rattle.calling.specs.Lived.{Lived}
 use Rattle.calling.proofs.Lived.{lived_since, lived_reached, cut, number_accepted}
 use Rattle.demands.specs.Demands.{Begun}
 use Rattle.demands.specs.Lives.{SinceStart}
-use Rattle.demands.proofs.DemandThree.{demand-3}
+use Rattle.demands.proofs.DemandThree.{demand_3}
 use Rattle.demands.proofs.ComesUp.{comes_up}
-use Rattle.demands.proofs.Listening.{listening-since, listens_in}
+use Rattle.demands.proofs.Listening.{listening_since, listens_in}
 use Rattle.demands.proofs.Across.{nothing_leaks}
 
 -- wherever a start was accepted, as code read it off the number that came back
@@ -31,9 +31,9 @@ lived_demand_3 m₀ m s e h new l starts accepted =
       started = c.result.manager;
       begun = begun;
       since = lived_since c.result.manager m s c.since;
-      demand = λ i used. demand-3 c.result.manager begun i used;
+      demand = λ i used. demand_3 c.result.manager begun i used;
       comes_up = λ i used. comes_up c.result.manager begun i used;
-      listening = listening-since c.result.manager begun;
+      listening = listening_since c.result.manager begun;
       listens_in = λ i used. listens_in c.result.manager begun i used;
       nothing_leaks = λ i used. nothing_leaks c.result.manager begun i used;
     }

@@ -3,7 +3,7 @@
 use Rattle.lists.proofs.Basics.{ℕ, zero, suc, ◌<◌, arith, ◌≡◌, refl, sym, ap, subst, ◌∙◌, List, [], ◌∷◌, append-nil, Bool, true, false, cond}
 use Rattle.lists.proofs.Basics.{map, eqb, true≢false, false≢true, length, get_or, set, get_or-set_same, get_or-set_other}
 use Rattle.lists.specs.Lists.{any, every}
-use Rattle.lists.proofs.Any.{any-append-none, every-cons, every_append, every-weaken}
+use Rattle.lists.proofs.Any.{any_append_none, every_cons, every_append, every_weaken}
 use Rattle.lists.proofs.Tests.{split}
 use Rattle.records.specs.declared.Record.{Record}
 use Rattle.records.specs.declared.PduMode.{PduMode}
@@ -34,15 +34,15 @@ use Rattle.slots.specs.declared.Outcome.{Outcome}
 use Rattle.slots.specs.Manager.{answer_number, networks_of, blank_state, network_at, state_at, gathered}
 use Rattle.slots.specs.Calls.{Call, slot_of, all_ticked, changes, all_online, online_anew, listened, outcome, by_rules, handed_out}
 use Rattle.calls.specs.Histories.{Address, to, address_of, seen_as, Switch, switch_of, entry_of}
-use Rattle.slots.proofs.Own.{slot_network, slot-state, ticked-own}
-use Rattle.calls.proofs.ByCall.{Found, by-slot, answer_number_lem, Declines, ByCall, by_call}
+use Rattle.slots.proofs.Own.{slot_network, slot_state, ticked_own}
+use Rattle.calls.proofs.ByCall.{Found, by_slot_lem, answer_number_lem, Declines, ByCall, by_call}
 use Rattle.calls.proofs.ByKind.{address_names}
 use Rattle.manager_theorems.specs.Careful.{Sound}
-use Rattle.network_demands.proofs.Handed.{move-hands-none}
+use Rattle.network_demands.proofs.Handed.{move_hands_none}
 use Rattle.network_demands.specs.Own.{hit_after, played, handed, concerns, Fits}
 use Rattle.demands.specs.View.{keep, is_turned, plainly, view_of}
 use Rattle.demands.proofs.Plainly.{plainly_none, plain_again, online_left_out}
-use Rattle.demands.proofs.Apart.{Once, has-once, own-once, keep_append, keep_all, keep-none}
+use Rattle.demands.proofs.Apart.{Once, has_once, own_once, keep_append, keep_all, keep_none}
 
 -- ---- the box of the demands plays the network's own part
 hit_is : (s : State) (hit : Hit) → hit_part s hit ≡ (let p : Part = record { reply = hit_reply hit; state = hit_after s hit } in p)
@@ -76,7 +76,7 @@ handed_is n s nothing = refl
 pub tick_plain : (n : Network) (s : State) → any is_turned (tick_records n s) ≡ false
 unfolding tick_records
 tick_plain n s =
-    move-hands-none n is_turned (λ id mode. refl) (λ id mode. refl) (λ id. pdus) (λ id. refl) (λ id. refl) (λ mode. refl) (λ notice. refl) refl
+    move_hands_none n is_turned (λ id mode. refl) (λ id mode. refl) (λ id. pdus) (λ id. refl) (λ id. refl) (λ mode. refl) (λ notice. refl) refl
     s.step s.told (move_of n s)
   where
     pdus : (pdu : PduMode) → eqb 2 (pdu_number pdu) ≡ false
@@ -104,7 +104,7 @@ pub ticks_plain : (ns : List Network) (ss : List State) → any is_turned (gathe
 unfolding gathered any
 ticks_plain [] ss = refl
 ticks_plain (n ∷ ns) [] = refl
-ticks_plain (n ∷ ns) (s ∷ ss) = any-append-none is_turned (tick_records n s) (gathered tick_records ns ss) (tick_plain n s) (ticks_plain ns ss)
+ticks_plain (n ∷ ns) (s ∷ ss) = any_append_none is_turned (tick_records n s) (gathered tick_records ns ss) (tick_plain n s) (ticks_plain ns ss)
 
 -- and a call to listen makes online alone
 online_alone : (n : Network) (step : Step) → every is_online (online_in n step) ≡ true
@@ -113,7 +113,7 @@ online_alone n step = split (λ (rs : List Record). every is_online rs ≡ true)
   where
     each : (ids : List ℕ) → every is_online (map (round_record (Round.Pdu online)) ids) ≡ true
     each [] = refl
-    each (id ∷ ids) = every-cons is_online (pdu_mode id online) (map (round_record (Round.Pdu online)) ids) ∙ each ids
+    each (id ∷ ids) = every_cons is_online (pdu_mode id online) (map (round_record (Round.Pdu online)) ids) ∙ each ids
 
 pub anew_online : (m : Manager) (listening : Bool) → every is_online (online_anew m listening) ≡ true
 unfolding online_anew all_online gathered every any
@@ -128,14 +128,14 @@ anew_online m listening =
 -- ---- of what all networks hand out, what a test keeps
 module _ (f : Network → State → List Record) (own : (n : Network) (s : State) → every (own_record n) (f n s) ≡ true) where
   -- nothing, where no network's own record passes
-  keep-foreign : (p : Record → Bool) (ns : List Network) (ss : List State) (d : Network)
+  keep_foreign : (p : Record → Bool) (ns : List Network) (ss : List State) (d : Network)
       → ((j : ℕ) → j < length ns → (r : Record) → own_record (get_or ns j d) r ≡ true → p r ≡ false) → keep p (gathered f ns ss) ≡ []
   unfolding keep gathered
-  keep-foreign p [] ss d g = refl
-  keep-foreign p (n ∷ ns) [] d g = refl
-  keep-foreign p (n ∷ ns) (s ∷ ss) d g =
+  keep_foreign p [] ss d g = refl
+  keep_foreign p (n ∷ ns) [] d g = refl
+  keep_foreign p (n ∷ ns) (s ∷ ss) d g =
       keep_append p (f n s) (gathered f ns ss)
-      ∙ rw (keep-none p (own_record n) (g 0 (omega arith)) (f n s) (own n s), keep-foreign p ns ss d (λ j k. g (suc j) (omega arith))) refl
+      ∙ rw (keep_none p (own_record n) (g 0 (omega arith)) (f n s) (own n s), keep_foreign p ns ss d (λ j k. g (suc j) (omega arith))) refl
 
   -- one network's records, where only its own pass
   pub keep_one : (p : Record → Bool) (ns : List Network) (ss : List State) (i : ℕ) (d : Network) (e : State) → i < length ns → i < length ss
@@ -146,12 +146,12 @@ module _ (f : Network → State → List Record) (own : (n : Network) (s : State
   keep_one p [] ss i d e h k mine g = absurd (omega arith)
   keep_one p (n ∷ ns) [] i d e h k mine g = absurd (omega arith)
   keep_one p (n ∷ ns) (s ∷ ss) zero d e h k mine g =
-      let first = keep_all p (f n s) (every-weaken (own_record n) p mine (f n s) (own n s)) in
-      let others = keep-foreign p ns ss d (λ j l. g (suc j) (omega arith) (λ z. absurd (omega (arith, z)))) in
+      let first = keep_all p (f n s) (every_weaken (own_record n) p mine (f n s) (own n s)) in
+      let others = keep_foreign p ns ss d (λ j l. g (suc j) (omega arith) (λ z. absurd (omega (arith, z)))) in
       keep_append p (f n s) (gathered f ns ss) ∙ rw (first, others) (append-nil (f n s))
   keep_one p (n ∷ ns) (s ∷ ss) (suc i) d e h k mine g =
       keep_append p (f n s) (gathered f ns ss)
-      ∙ rw (keep-none p (own_record n) (g 0 (omega arith) (λ z. absurd (omega (arith, z)))) (f n s) (own n s))
+      ∙ rw (keep_none p (own_record n) (g 0 (omega arith) (λ z. absurd (omega (arith, z)))) (f n s) (own n s))
       (keep_one p ns ss i d e (omega arith) (omega arith) mine (λ j l z. g (suc j) (omega arith) (λ q. z (omega (arith, q)))))
 
 -- ---- a network of a started manager
@@ -189,28 +189,28 @@ module _
 
   -- a record that another network names as its own is not this one's
   foreign : (j : ℕ) → j < length (networks_of m) → (i ≡ j → ⊥) → (r : Record) → own_record (network_at m j) r ≡ true → own_record n r ≡ false
-  foreign j k apart r p = by-test (own_record n r) refl where
-    by-test : (b : Bool) → own_record n r ≡ b → b ≡ false
-    by-test true e = absurd (apart (own-once (networks_of m) once i j blank_network h k r (rw (slot_network m i h) e) (rw (slot_network m j k) p)))
-    by-test false e = refl
+  foreign j k apart r p = by_test (own_record n r) refl where
+    by_test : (b : Bool) → own_record n r ≡ b → b ≡ false
+    by_test true e = absurd (apart (own_once (networks_of m) once i j blank_network h k r (rw (slot_network m i h) e) (rw (slot_network m j k) p)))
+    by_test false e = refl
 
   -- the slot that an id of the network names is its own
   same_slot : (id : Id) (j : ℕ) → Found m id j → has id n ≡ true → i ≡ j
   same_slot id j f e =
-      has-once (networks_of m) once i j blank_network h f.used id (rw (slot_network m i h) e) (rw (slot_network m j f.used) f.has)
+      has_once (networks_of m) once i j blank_network h f.used id (rw (slot_network m i h) e) (rw (slot_network m j f.used) f.has)
 
   -- and one that it has not names another
-  other-slot : (id : Id) (j : ℕ) → Found m id j → has id n ≡ false → i ≡ j → ⊥
-  other-slot id j f e q = true≢false (sym f.has ∙ ap (λ (k : ℕ). has id (network_at m k)) (sym q) ∙ e)
+  other_slot : (id : Id) (j : ℕ) → Found m id j → has id n ≡ false → i ≡ j → ⊥
+  other_slot id j f e q = true≢false (sym f.has ∙ ap (λ (k : ℕ). has id (network_at m k)) (sym q) ∙ e)
 
   -- an id of the network names its slot
-  pub own-slot : (id : Id) → has id n ≡ true → slot_of m id ≡ Slot.At i
-  own-slot id e = by-slot m id (λ slot. slot ≡ Slot.At i) (λ f. absurd (f started)) (λ f. absurd (true≢false (sym e ∙ f i h)))
+  pub own_slot : (id : Id) → has id n ≡ true → slot_of m id ≡ Slot.At i
+  own_slot id e = by_slot_lem m id (λ slot. slot ≡ Slot.At i) (λ f. absurd (f started)) (λ f. absurd (true≢false (sym e ∙ f i h)))
       (λ j f. ap Slot.At (sym (same_slot id j f e)))
 
-  declined-plays : (id : Id) (sight : Sight) (j : ℕ) (a : Answer) → Found m id j → Declines (part_of (network_at m j) (state_at m j) sight) a
+  declined_plays : (id : Id) (sight : Sight) (j : ℕ) (a : Answer) → Found m id j → Declines (part_of (network_at m j) (state_at m j) sight) a
       → (own : Bool) → has id n ≡ own → Plays (cond own sight nothing) (answer_number a) s []
-  declined-plays id sight j a f d true e =
+  declined_plays id sight j a f d true e =
       let own : Declines (part_of n s sight) a =
       subst (λ (k : ℕ). Declines (part_of (network_at m k) (state_at m k) sight) a) (sym (same_slot id j f e)) d in
       let stays = refused_stays n s sight own.refused in
@@ -219,33 +219,33 @@ module _
         answer = λ _. ap answer_number own.answer ∙ answer_number_lem (part_of n s sight).reply;
         records = none_kept ∙ sym stays.1;
       }
-  declined-plays id sight j a f d false e = unseen (answer_number a) s [] refl none_kept
+  declined_plays id sight j a f d false e = unseen (answer_number a) s [] refl none_kept
 
   -- the network's record after slot j took what it sees so
   abbrev stored : ℕ → Sight → State
   stored j sight = get_or (set m.states j (part_of (network_at m j) (state_at m j) sight).state) i blank_state
 
-  taken-plays : (id : Id) (sight : Sight) (j : ℕ) → Found m id j → is_taken (part_of (network_at m j) (state_at m j) sight).reply ≡ true
+  taken_plays : (id : Id) (sight : Sight) (j : ℕ) → Found m id j → is_taken (part_of (network_at m j) (state_at m j) sight).reply ≡ true
       → (own : Bool) → has id n ≡ own → Plays (cond own sight nothing) 0 (stored j sight) (records_of (network_at m j) (state_at m j) sight)
-  taken-plays id sight j f t true e =
+  taken_plays id sight j f t true e =
       subst (λ (k : ℕ). is_taken (part_of (network_at m k) (state_at m k) sight).reply ≡ true
       → Plays sight 0 (stored k sight) (records_of (network_at m k) (state_at m k) sight))
       (same_slot id j f e)
       (λ t'. record {
-        state = get_or-set_same m.states i (part_of n s sight).state blank_state (slot-state m sound.networks sound.states i h);
+        state = get_or-set_same m.states i (part_of n s sight).state blank_state (slot_state m sound.networks sound.states i h);
         answer = λ _. sym (taken_number (part_of n s sight).reply t');
         records = keep_all (own_record n) (records_of n s sight) (part_own n s sight);
       }) t
-  taken-plays id sight j f t false e =
-      let apart = other-slot id j f e in
-      unseen 0 _ _ (get_or-set_other m.states j i _ blank_state apart) (keep-none (own_record n) (own_record (network_at m j))
+  taken_plays id sight j f t false e =
+      let apart = other_slot id j f e in
+      unseen 0 _ _ (get_or-set_other m.states j i _ blank_state apart) (keep_none (own_record n) (own_record (network_at m j))
       (foreign j f.used apart) (records_of (network_at m j) (state_at m j) sight) (part_own (network_at m j) (state_at m j) sight))
 
   -- of what all networks hand out the network's own records
-  pub own-gathered : (f : Network → State → List Record) → ((k : Network) (t : State) → every (own_record k) (f k t) ≡ true)
+  pub own_gathered : (f : Network → State → List Record) → ((k : Network) (t : State) → every (own_record k) (f k t) ≡ true)
       → keep (own_record n) (gathered f (networks_of m) m.states) ≡ f n s
-  own-gathered f own =
-      keep_one f own (own_record n) (networks_of m) m.states i blank_network blank_state h (slot-state m sound.networks sound.states i h)
+  own_gathered f own =
+      keep_one f own (own_record n) (networks_of m) m.states i blank_network blank_state h (slot_state m sound.networks sound.states i h)
       (λ r e. rw (sym (slot_network m i h)) e) (λ j k apart r e. foreign j k apart r (rw (sym (slot_network m j k)) e))
       ∙ rw (slot_network m i h) refl
 
@@ -253,26 +253,26 @@ module _
   none_left : (c : Call) (number : ℕ) (listening : Bool) → keep (own_record n) (left number c listening []) ≡ []
   none_left c number listening = ap (keep (own_record n)) (plainly_none (switch_of number c)) ∙ none_kept
 
-  refused-plays : (c : Call) (sight : Sight) (a : Answer) → Plays sight (answer_number a) s [] → Plays sight (answer_number a) s
+  refused_plays : (c : Call) (sight : Sight) (a : Answer) → Plays sight (answer_number a) s [] → Plays sight (answer_number a) s
       (left (answer_number a) c m.listening [])
-  refused-plays c sight a p = subst (Plays sight (answer_number a) s) (sym (plainly_none (switch_of (answer_number a) c))) p
+  refused_plays c sight a p = subst (Plays sight (answer_number a) s) (sym (plainly_none (switch_of (answer_number a) c))) p
 
   -- every call
-  call-plays : (c : Call) → PlaysIn c (outcome m c) (by_rules m c)
+  call_plays : (c : Call) → PlaysIn c (outcome m c) (by_rules m c)
   unfolding all_ticked listened part_of records_of
-  call-plays = by_call m PlaysIn (record {
-    refuses = λ c a r f. refused-plays c _ a
+  call_plays = by_call m PlaysIn (record {
+    refuses = λ c a r f. refused_plays c _ a
         (subst (λ (sight : Sight). Plays sight (answer_number a) s []) (sym (f started i h)) (unseen (answer_number a) s [] refl none_kept));
-    declines = λ c id sight j a e f d r. refused-plays c _ a
-        (subst (λ (x : Address). Plays (seen_as n x) (answer_number a) s []) (sym e) (declined-plays id sight j a f d (has id n) refl));
+    declines = λ c id sight j a e f d r. refused_plays c _ a
+        (subst (λ (x : Address). Plays (seen_as n x) (answer_number a) s []) (sym e) (declined_plays id sight j a f d (has id n) refl));
     takes = λ c id sight j e f t k.
         subst (λ (x : Address). Plays (seen_as n x) 0 (stored j sight) (left 0 c m.listening (records_of (network_at m j) (state_at m j) sight))) (sym e)
-        (subst (Plays (cond (has id n) sight nothing) 0 (stored j sight)) (sym (taken-left c id sight j e))
-        (taken-plays id sight j f t (has id n) refl));
+        (subst (Plays (cond (has id n) sight nothing) 0 (stored j sight)) (sym (taken_left c id sight j e))
+        (taken_plays id sight j f t (has id n) refl));
     ticks = λ room g k. record {
-      state = ticked-own m sound.networks sound.states i h;
+      state = ticked_own m sound.networks sound.states i h;
       answer = λ _. refl;
-      records = ap (keep (own_record n)) (plain_again m.listening _ (ticks_plain (networks_of m) m.states)) ∙ own-gathered tick_records tick_own;
+      records = ap (keep (own_record n)) (plain_again m.listening _ (ticks_plain (networks_of m) m.states)) ∙ own_gathered tick_records tick_own;
     };
     listens = λ value room g k a. unseen 0 s _ refl
         (ap (keep (own_record n)) (online_left_out (eqb 1 value) (eqb 1 value) _ (anew_online m (eqb 1 value))) ∙ none_kept);
@@ -283,19 +283,19 @@ module _
     starts = λ e. absurd (let z : ◌≡◌ {A = ℕ} 0 1 = cc in omega arith);
   })
     where
-      taken-left : (c : Call) (id : Id) (sight : Sight) (j : ℕ) → address_of 0 c ≡ to id sight
+      taken_left : (c : Call) (id : Id) (sight : Sight) (j : ℕ) → address_of 0 c ≡ to id sight
           → left 0 c m.listening (records_of (network_at m j) (state_at m j) sight) ≡ records_of (network_at m j) (state_at m j) sight
-      taken-left c id sight j e =
+      taken_left c id sight j e =
           let rs = records_of (network_at m j) (state_at m j) sight in
           ap (λ (x : Switch). plainly x (map (turned m.listening) rs)) (address_names 0 c id sight e).1
           ∙ plain_again m.listening rs (part_plain (network_at m j) (state_at m j) sight)
 
   -- as the demands see it
-  pub entry-fits : (c : Call) →
+  pub entry_fits : (c : Call) →
       Fits n s (view_of n (entry_of m c)) × (state_at (outcome m c).manager i ≡ (played n s (view_of n (entry_of m c)).sight).state)
   unfolding handed_out
-  entry-fits c =
-      let p = call-plays c in
+  entry_fits c =
+      let p = call_plays c in
       let sight = (view_of n (entry_of m c)).sight in
       let same = played_is n s sight in (
         record { number = λ f. p.answer f ∙ rw same refl; records = p.records ∙ handed_is n s sight },

@@ -11,7 +11,7 @@ use Rattle.network_demands.proofs.Ticks.{ticks}
 use Rattle.demands.specs.View.{view_of, views_of}
 use Rattle.demands.specs.Demands.{Begun}
 use Rattle.demands.specs.Promises.{Promises}
-use Rattle.demands.proofs.Follow.{ran-since, in_range, distinct}
+use Rattle.demands.proofs.Follow.{ran_since, in_range, distinct}
 
 module _ (m₀ : Manager) (b : Begun m₀) (i : ℕ) (l : i < length (networks_of m₀)) where
   abbrev n : Network
@@ -22,7 +22,7 @@ module _ (m₀ : Manager) (b : Begun m₀) (i : ℕ) (l : i < length (networks_o
 
   -- a history since the start, as the network sees it
   ran : (m : Manager) (e : Entry) (h : History) → Since m₀ m (e ∷ h) → Ran n (view_of n e ∷ views_of n h)
-  ran m e h = ran-since m₀ b i l m (e ∷ h)
+  ran m e h = ran_since m₀ b i l m (e ∷ h)
 
   pub promises : Promises m₀ n
   promises = record {

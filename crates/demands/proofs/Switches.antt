@@ -3,7 +3,7 @@
 use Rattle.lists.proofs.Basics.{ℕ, arith, ◌≡◌, refl, sym, ap, ◌∙◌, List, [], ◌∷◌, map, Bool, true, false, not, cond, ◌&&◌}
 use Rattle.lists.proofs.Basics.{eqb, eqb-true, ltb, leb, length}
 use Rattle.lists.specs.Lists.{any, every}
-use Rattle.lists.proofs.Any.{and_both, every-cons}
+use Rattle.lists.proofs.Any.{and_both, every_cons}
 use Rattle.records.specs.declared.Record.{Record}
 use Rattle.records.specs.Records.{listens, is_online, turned}
 use Rattle.records.proofs.Laws.{turned_none}
@@ -70,7 +70,7 @@ online_plain : (rs : List Record) → every is_online rs ≡ true → any is_tur
 unfolding any
 online_plain [] e = refl
 online_plain (r ∷ rs) e =
-    let p = and_both (is_online r) (every is_online rs) (sym (every-cons is_online r rs) ∙ e) in
+    let p = and_both (is_online r) (every is_online rs) (sym (every_cons is_online r rs) ∙ e) in
     rw (one (eqb 3 r.kind) r.argument p.0) (online_plain rs p.1)
   where
     one : (b : Bool) (argument : ℕ) → b && eqb 0 argument ≡ true → b && eqb 2 argument ≡ false
@@ -108,28 +108,28 @@ none_online (r ∷ rs) = rw (one (is_online r) refl) (none_online rs)
 
 module _ (m : Manager) (c : Call) where
   -- a call after which the manager listens hands out no online
-  pub call-quiet : (outcome m c).manager.listening ≡ true → any is_online (handed_out m c) ≡ false
+  pub call_quiet : (outcome m c).manager.listening ≡ true → any is_online (handed_out m c) ≡ false
   unfolding handed_out
-  call-quiet e = rw e (none_online (by_rules m c))
+  call_quiet e = rw e (none_online (by_rules m c))
 
   -- and one after which it does not, no argument 2 of kind 3
-  pub call-aloud : (outcome m c).manager.listening ≡ false → any is_turned (handed_out m c) ≡ false
+  pub call_aloud : (outcome m c).manager.listening ≡ false → any is_turned (handed_out m c) ≡ false
   unfolding handed_out
-  call-aloud e = rw (e, turned_none (by_rules m c)) (rules_plain m c)
+  call_aloud e = rw (e, turned_none (by_rules m c)) (rules_plain m c)
 
   -- the records of the rules as they go out, by which of the two it is after the call
-  pub handed-turned : (listening : Bool) → (outcome m c).manager.listening ≡ listening → handed_out m c ≡ map (turned listening) (by_rules m c)
+  pub handed_turned : (listening : Bool) → (outcome m c).manager.listening ≡ listening → handed_out m c ≡ map (turned listening) (by_rules m c)
   unfolding handed_out
-  handed-turned listening e = ap (λ (l : Bool). map (turned l) (by_rules m c)) e
+  handed_turned listening e = ap (λ (l : Bool). map (turned l) (by_rules m c)) e
 
   -- with listening taken out it is what the rules make
-  pub call-plain : map unturned (handed_out m c) ≡ by_rules m c
+  pub call_plain : map unturned (handed_out m c) ≡ by_rules m c
   unfolding handed_out
-  call-plain = plain_again (outcome m c).manager.listening (by_rules m c) (rules_plain m c)
+  call_plain = plain_again (outcome m c).manager.listening (by_rules m c) (rules_plain m c)
 
   -- and so a network sees its own of these, where the call leaves it as it was
-  pub view-plain : (n : Network) → switch_of (entry_of m c).number c ≡ leaves → (view_of n (entry_of m c)).records ≡ keep (own_record n) (by_rules m c)
-  view-plain n e = ap (λ (x : Switch). keep (own_record n) (plainly x (handed_out m c))) e ∙ ap (keep (own_record n)) call-plain
+  pub view_plain : (n : Network) → switch_of (entry_of m c).number c ≡ leaves → (view_of n (entry_of m c)).records ≡ keep (own_record n) (by_rules m c)
+  view_plain n e = ap (λ (x : Switch). keep (own_record n) (plainly x (handed_out m c))) e ∙ ap (keep (own_record n)) call_plain
 
 -- ---- nothing else goes by it
 -- an outcome after which the manager does not listen
@@ -140,109 +140,109 @@ module _ (m : Manager) where
   abbrev deaf : Manager
   deaf = with_listening m false
 
-  named-hushed : (id : Id) (sight : Sight) → named deaf id sight ≡ hushed (named m id sight)
+  named_hushed : (id : Id) (sight : Sight) → named deaf id sight ≡ hushed (named m id sight)
   unfolding named slot_of slot_outcome settled
-  named-hushed id sight = by-slot-of (slot_of m id)
+  named_hushed id sight = by_slot_of (slot_of m id)
     where
-      by-reply : (taken : Bool) (i : ℕ) → cond taken
+      by_reply_lem : (taken : Bool) (i : ℕ) → cond taken
           (accepted (with_state deaf i (part_of (network_at m i) (state_at m i) sight).state) (length (records_of (network_at m i) (state_at m i) sight)))
           (refused deaf (answer_of (part_of (network_at m i) (state_at m i) sight).reply))
           ≡ hushed (cond taken
           (accepted (with_state m i (part_of (network_at m i) (state_at m i) sight).state) (length (records_of (network_at m i) (state_at m i) sight)))
           (refused m (answer_of (part_of (network_at m i) (state_at m i) sight).reply)))
-      by-reply true i = refl
-      by-reply false i = refl
+      by_reply_lem true i = refl
+      by_reply_lem false i = refl
 
-      by-slot-of : (slot : Slot) → by_slot deaf slot (λ i. slot_outcome deaf i sight) ≡ hushed (by_slot m slot (λ i. slot_outcome m i sight))
-      by-slot-of (Slot.Refused a) = refl
-      by-slot-of (Slot.At i) = by-reply (is_taken (part_of (network_at m i) (state_at m i) sight).reply) i
+      by_slot_of : (slot : Slot) → by_slot deaf slot (λ i. slot_outcome deaf i sight) ≡ hushed (by_slot m slot (λ i. slot_outcome m i sight))
+      by_slot_of (Slot.Refused a) = refl
+      by_slot_of (Slot.At i) = by_reply_lem (is_taken (part_of (network_at m i) (state_at m i) sight).reply) i
 
-  gate-hushed : (gate : Gate) (o o' : Outcome) → o ≡ hushed o' → by_gate deaf gate o ≡ hushed (by_gate m gate o')
-  gate-hushed (Gate.Refused a) o o' e = refl
-  gate-hushed Gate.Open o o' e = e
+  gate_hushed : (gate : Gate) (o o' : Outcome) → o ≡ hushed o' → by_gate deaf gate o ≡ hushed (by_gate m gate o')
+  gate_hushed (Gate.Refused a) o o' e = refl
+  gate_hushed Gate.Open o o' e = e
 
-  read-hushed : (bytes : List ℕ) → read_into deaf bytes ≡ hushed (read_into m bytes)
+  read_hushed : (bytes : List ℕ) → read_into deaf bytes ≡ hushed (read_into m bytes)
   unfolding read_into
-  read-hushed bytes = by-verdict (decode bytes).answer
+  read_hushed bytes = by_verdict (decode bytes).answer
     where
-      by-verdict : (v : Verdict) → after_reading deaf (decode bytes) v ≡ hushed (after_reading m (decode bytes) v)
-      by-verdict Verdict.Accepted = refl
-      by-verdict (Verdict.Refused fault) = refl
+      by_verdict : (v : Verdict) → after_reading deaf (decode bytes) v ≡ hushed (after_reading m (decode bytes) v)
+      by_verdict Verdict.Accepted = refl
+      by_verdict (Verdict.Refused fault) = refl
 
-  write-hushed : (room : ℕ) → writing_of deaf room ≡ hushed (writing_of m room)
+  write_hushed : (room : ℕ) → writing_of deaf room ≡ hushed (writing_of m room)
   unfolding writing_of
-  write-hushed room = by-room (leb (length (encode (settings_of m))) room)
+  write_hushed room = by_room (leb (length (encode (settings_of m))) room)
     where
-      by-room : (fits : Bool) → cond fits (accepted deaf (length (encode (settings_of m)))) (refused deaf Answer.TooShort)
+      by_room : (fits : Bool) → cond fits (accepted deaf (length (encode (settings_of m)))) (refused deaf Answer.TooShort)
           ≡ hushed (cond fits (accepted m (length (encode (settings_of m)))) (refused m Answer.TooShort))
-      by-room true = refl
-      by-room false = refl
+      by_room true = refl
+      by_room false = refl
 
-  by-stage : (g : Stage) (a b c a' b' c' : Outcome) → a ≡ hushed a' → b ≡ hushed b' → c ≡ hushed c' → by_stage g a b c ≡ hushed (by_stage g a' b' c')
-  by-stage Stage.Empty a b c a' b' c' p q r = p
-  by-stage Stage.Loaded a b c a' b' c' p q r = q
-  by-stage Stage.Started a b c a' b' c' p q r = r
+  by_stage_lem : (g : Stage) (a b c a' b' c' : Outcome) → a ≡ hushed a' → b ≡ hushed b' → c ≡ hushed c' → by_stage g a b c ≡ hushed (by_stage g a' b' c')
+  by_stage_lem Stage.Empty a b c a' b' c' p q r = p
+  by_stage_lem Stage.Loaded a b c a' b' c' p q r = q
+  by_stage_lem Stage.Started a b c a' b' c' p q r = r
 
-  poll-hushed : (slot : Slot) → by_slot deaf slot (λ i. polled deaf (state_at m i).told) ≡ hushed (by_slot m slot (λ i. polled m (state_at m i).told))
-  poll-hushed (Slot.Refused a) = refl
-  poll-hushed (Slot.At i) = refl
+  poll_hushed : (slot : Slot) → by_slot deaf slot (λ i. polled deaf (state_at m i).told) ≡ hushed (by_slot m slot (λ i. polled m (state_at m i).told))
+  poll_hushed (Slot.Refused a) = refl
+  poll_hushed (Slot.At i) = refl
 
   -- a value that is refused, or a gate that is shut: the only ways in which a call to listen leaves it
-  listen-hushed : (value : ℕ) (gate : Gate) (above : Bool)
+  listen_hushed : (value : ℕ) (gate : Gate) (above : Bool)
       → switch_of (answer_number (by_gate m gate (cond above (refused m Answer.OutOfRange) (listened m (eqb 1 value)))).answer) (listen value 0) ≡ leaves
       → by_gate deaf gate (cond above (refused deaf Answer.OutOfRange) (listened deaf (eqb 1 value)))
       ≡ hushed (by_gate m gate (cond above (refused m Answer.OutOfRange) (listened m (eqb 1 value))))
   unfolding listened
-  listen-hushed value (Gate.Refused a) above e = refl
-  listen-hushed value Gate.Open true e = refl
-  listen-hushed value Gate.Open false e = absurd (let z : ◌≡◌ {A = ℕ} 0 1 = cc in omega arith)
+  listen_hushed value (Gate.Refused a) above e = refl
+  listen_hushed value Gate.Open true e = refl
+  listen_hushed value Gate.Open false e = absurd (let z : ◌≡◌ {A = ℕ} 0 1 = cc in omega arith)
 
   -- of a call that leaves it as it was
-  pub call-hushed : (c : Call) → switch_of (entry_of m c).number c ≡ leaves → outcome deaf c ≡ hushed (outcome m c)
+  pub call_hushed : (c : Call) → switch_of (entry_of m c).number c ≡ leaves → outcome deaf c ≡ hushed (outcome m c)
   unfolding outcome slot_of gate_of all_ticked tick_needs listen_needs
-  call-hushed c = by_kind c (kind_of c)
+  call_hushed c = by_kind c (kind_of c)
     where
       by_kind : (c : Call) → Kind c → switch_of (entry_of m c).number c ≡ leaves → outcome deaf c ≡ hushed (outcome m c)
-      by_kind _ (names_id c id sight k) e = k.gives deaf ∙ named-hushed id sight ∙ ap hushed (sym (k.gives m))
+      by_kind _ (names_id c id sight k) e = k.gives deaf ∙ named_hushed id sight ∙ ap hushed (sym (k.gives m))
       by_kind _ (reports_trouble c room id trouble k) e =
-          k.gives deaf ∙ gate-hushed (gate_of m room (trouble_needs trouble)) _ _ (named-hushed id (sight_of trouble)) ∙ ap hushed (sym (k.gives m))
-      by_kind _ (is_poll handle) e = poll-hushed (slot_of m (Id.OfNetwork handle))
-      by_kind _ (is_read bytes) e = by-stage m.stage _ _ _ _ _ _ (read-hushed bytes) (read-hushed bytes) refl
-      by_kind _ (is_write room) e = by-stage m.stage _ _ _ _ _ _ refl (write-hushed room) (write-hushed room)
-      by_kind _ is_start e = by-stage m.stage _ _ _ _ _ _ refl refl refl
-      by_kind _ (is_tick room) e = gate-hushed (gate_of m room (tick_needs m)) _ _ refl
-      by_kind _ (is_listen value room) e = listen-hushed value (gate_of m room (listen_needs m)) (ltb 1 value) e
+          k.gives deaf ∙ gate_hushed (gate_of m room (trouble_needs trouble)) _ _ (named_hushed id (sight_of trouble)) ∙ ap hushed (sym (k.gives m))
+      by_kind _ (is_poll handle) e = poll_hushed (slot_of m (Id.OfNetwork handle))
+      by_kind _ (is_read bytes) e = by_stage_lem m.stage _ _ _ _ _ _ (read_hushed bytes) (read_hushed bytes) refl
+      by_kind _ (is_write room) e = by_stage_lem m.stage _ _ _ _ _ _ refl (write_hushed room) (write_hushed room)
+      by_kind _ is_start e = by_stage_lem m.stage _ _ _ _ _ _ refl refl refl
+      by_kind _ (is_tick room) e = gate_hushed (gate_of m room (tick_needs m)) _ _ refl
+      by_kind _ (is_listen value room) e = listen_hushed value (gate_of m room (listen_needs m)) (ltb 1 value) e
 
   -- a call to listen whose records are not looked at: it is refused
-  listen-made : (value : ℕ) (gate : Gate) (above : Bool)
+  listen_made : (value : ℕ) (gate : Gate) (above : Bool)
       → switch_of (answer_number (by_gate m gate (cond above (refused m Answer.OutOfRange) (listened m (eqb 1 value)))).answer) (listen value 0) ≡ leaves
       → gate_records gate (cond above [] (online_anew deaf (eqb 1 value))) ≡ gate_records gate (cond above [] (online_anew m (eqb 1 value)))
   unfolding listened
-  listen-made value (Gate.Refused a) above e = refl
-  listen-made value Gate.Open true e = refl
-  listen-made value Gate.Open false e = absurd (let z : ◌≡◌ {A = ℕ} 0 1 = cc in omega arith)
+  listen_made value (Gate.Refused a) above e = refl
+  listen_made value Gate.Open true e = refl
+  listen_made value Gate.Open false e = absurd (let z : ◌≡◌ {A = ℕ} 0 1 = cc in omega arith)
 
-  slot-made : (slot : Slot) (sight : Sight) → slot_records deaf slot sight ≡ slot_records m slot sight
-  slot-made (Slot.Refused a) sight = refl
-  slot-made (Slot.At i) sight = refl
+  slot_made : (slot : Slot) (sight : Sight) → slot_records deaf slot sight ≡ slot_records m slot sight
+  slot_made (Slot.Refused a) sight = refl
+  slot_made (Slot.At i) sight = refl
 
-  call-made : (c : Call) → switch_of (entry_of m c).number c ≡ leaves → by_rules deaf c ≡ by_rules m c
+  call_made : (c : Call) → switch_of (entry_of m c).number c ≡ leaves → by_rules deaf c ≡ by_rules m c
   unfolding outcome by_rules slot_of gate_of tick_needs listen_needs
-  call-made c = by_kind c (kind_of c)
+  call_made c = by_kind c (kind_of c)
     where
       by_kind : (c : Call) → Kind c → switch_of (entry_of m c).number c ≡ leaves → by_rules deaf c ≡ by_rules m c
       by_kind _ (names_id c id sight k) e = k.makes deaf ∙ sym (k.makes m)
       by_kind _ (reports_trouble c room id trouble k) e =
-          k.makes deaf ∙ ap (gate_records (gate_of m room (trouble_needs trouble))) (slot-made (slot_of m id) (sight_of trouble)) ∙ sym (k.makes m)
+          k.makes deaf ∙ ap (gate_records (gate_of m room (trouble_needs trouble))) (slot_made (slot_of m id) (sight_of trouble)) ∙ sym (k.makes m)
       by_kind _ (is_poll handle) e = refl
       by_kind _ (is_read bytes) e = refl
       by_kind _ (is_write room) e = refl
       by_kind _ is_start e = refl
       by_kind _ (is_tick room) e = refl
-      by_kind _ (is_listen value room) e = listen-made value (gate_of m room (listen_needs m)) (ltb 1 value) e
+      by_kind _ (is_listen value room) e = listen_made value (gate_of m room (listen_needs m)) (ltb 1 value) e
 
   -- so its entry is the same, with argument 2 of kind 3 read as online
-  pub entry-hushed : (c : Call) → switch_of (entry_of m c).number c ≡ leaves
+  pub entry_hushed : (c : Call) → switch_of (entry_of m c).number c ≡ leaves
       → entry_of deaf c ≡ (let e : Entry = record {
         call = c;
         number = (entry_of m c).number;
@@ -250,8 +250,8 @@ module _ (m : Manager) where
         records = map unturned (handed_out m c);
       } in e)
   unfolding handed_out
-  entry-hushed c e =
-      let same = call-hushed c e in
+  entry_hushed c e =
+      let same = call_hushed c e in
       let made : map (turned (outcome deaf c).manager.listening) (by_rules deaf c) ≡ map unturned (handed_out m c) =
-      ap (λ (o : Outcome). map (turned o.manager.listening) (by_rules deaf c)) same ∙ turned_none (by_rules deaf c) ∙ call-made c e ∙ sym (call-plain m c) in
+      ap (λ (o : Outcome). map (turned o.manager.listening) (by_rules deaf c)) same ∙ turned_none (by_rules deaf c) ∙ call_made c e ∙ sym (call_plain m c) in
       λ i. record { call = c; number = answer_number (same i).answer; mode = (same i).mode; records = made i }

@@ -102,55 +102,55 @@ partial_down = a_tick ∷ checked ∷ checking
 -- ---- from rest
 module _ where
   -- one controller, no transceiver: on the third tick, with 3 x 1 + 2 records; and not on the second
-  pub third-tick : figure_of 1 network (a_tick ∷ bare_up) rest ≡ good true 3 5 2
+  pub third_tick : figure_of 1 network (a_tick ∷ bare_up) rest ≡ good true 3 5 2
   unfolding computed_figure
-  third-tick = refl
+  third_tick = refl
 
-  pub not-on-the-second : figure_of 1 network bare_up rest ≡ good true 2 2 0
+  pub not_on_the_second : figure_of 1 network bare_up rest ≡ good true 2 2 0
   unfolding computed_figure
-  not-on-the-second = refl
+  not_on_the_second = refl
 
   -- two controllers, a transceiver: on the fourth, with 3 x 2 + 3; and not on the third
-  pub fourth-tick : figure_of 1 plain (a_tick ∷ fitted_up) plain_down ≡ good true 4 9 2
+  pub fourth_tick : figure_of 1 plain (a_tick ∷ fitted_up) plain_down ≡ good true 4 9 2
   unfolding computed_figure
-  fourth-tick = refl
+  fourth_tick = refl
 
-  pub not-on-the-third : figure_of 1 plain fitted_up plain_down ≡ good true 3 5 0
+  pub not_on_the_third : figure_of 1 plain fitted_up plain_down ≡ good true 3 5 0
   unfolding computed_figure
-  not-on-the-third = refl
+  not_on_the_third = refl
 
   -- with partial networking: the same
-  pub fourth-tick-with-partial-networking : figure_of 1 fitted (a_tick ∷ fitted_up) partial_down ≡ good true 4 9 2
+  pub fourth_tick_with_partial_networking : figure_of 1 fitted (a_tick ∷ fitted_up) partial_down ≡ good true 4 9 2
   unfolding computed_figure
-  fourth-tick-with-partial-networking = refl
+  fourth_tick_with_partial_networking = refl
 
   -- the neighbours are not at their best: a not ok before each ok, an ok that nobody asked for, a bus_off_lem that is refused, full wanted twice
-  pub third-tick-in-spite : figure_of 1 network
+  pub third_tick_in_spite : figure_of 1 network
       (a_tick ∷ ok 1 ∷ an_answer 3 1 0 ∷ a_tick ∷ ok 0 ∷ an_answer 3 0 0 ∷ ok 1 ∷ a_bus_off ∷ a_request 2 ∷ a_tick ∷ ok 1 ∷ a_bus_off ∷ a_request 2 ∷ []) rest
       ≡ good true 3 5 2
   unfolding computed_figure
-  third-tick-in-spite = refl
+  third_tick_in_spite = refl
 
 -- ---- from the start, where full is wanted when the network has come to rest
 module _ where
   -- one controller, no transceiver: on the sixth tick, with 5 x 1 + 3 records; and not on the fifth
-  pub sixth-tick : figure_of 4 network (a_tick ∷ (bare_up ++ rest)) [] ≡ good false 6 8 2
+  pub sixth_tick : figure_of 4 network (a_tick ∷ (bare_up ++ rest)) [] ≡ good false 6 8 2
   unfolding computed_figure
-  sixth-tick = refl
+  sixth_tick = refl
 
-  pub not-on-the-fifth : figure_of 4 network (bare_up ++ rest) [] ≡ good false 5 5 0
+  pub not_on_the_fifth : figure_of 4 network (bare_up ++ rest) [] ≡ good false 5 5 0
   unfolding computed_figure
-  not-on-the-fifth = refl
+  not_on_the_fifth = refl
 
   -- two controllers, a transceiver: on the eighth, with 5 x 2 + 5
-  pub eighth-tick : figure_of 5 plain (a_tick ∷ (fitted_up ++ plain_down)) [] ≡ good false 8 15 2
+  pub eighth_tick : figure_of 5 plain (a_tick ∷ (fitted_up ++ plain_down)) [] ≡ good false 8 15 2
   unfolding computed_figure
-  eighth-tick = refl
+  eighth_tick = refl
 
   -- with partial networking: on the tenth, with 5 x 2 + 7
-  pub tenth-tick : figure_of 7 fitted (a_tick ∷ (fitted_up ++ partial_down)) [] ≡ good false 10 17 2
+  pub tenth_tick : figure_of 7 fitted (a_tick ∷ (fitted_up ++ partial_down)) [] ≡ good false 10 17 2
   unfolding computed_figure
-  tenth-tick = refl
+  tenth_tick = refl
 
 -- ---- from anywhere: histories that need every tick of the bound
 -- the figure of the most ticks less one, that with the last, and the bound
@@ -160,34 +160,34 @@ Needs n later earlier ticks few told all =
 
 module _ where
   -- no transceiver, short delays: the controller was asked to stop and has not answered
-  pub six-ticks : Needs (delayed 2 4 1) (bare_up ++ (a_tick ∷ ok 2 ∷ a_tick ∷ ok 0 ∷ a_tick ∷ a_request 2 ∷ [])) (a_tick ∷ []) 5 5 0 8
+  pub six_ticks : Needs (delayed 2 4 1) (bare_up ++ (a_tick ∷ ok 2 ∷ a_tick ∷ ok 0 ∷ a_tick ∷ a_request 2 ∷ [])) (a_tick ∷ []) 5 5 0 8
   unfolding computed_figure
-  six-ticks = (refl, refl)
+  six_ticks = (refl, refl)
 
   -- a transceiver: the same
-  pub eight-ticks : Needs plain (fitted_up ++ (plain_down ++ (a_request 2 ∷ []))) (a_tick ∷ []) 7 11 0 15
+  pub eight_ticks : Needs plain (fitted_up ++ (plain_down ++ (a_request 2 ∷ []))) (a_tick ∷ []) 7 11 0 15
   unfolding computed_figure
-  eight-ticks = (refl, refl)
+  eight_ticks = (refl, refl)
 
   -- partial networking: sleep was refused, so that the network goes down a second time
-  pub eleven-ticks : Needs fitted (fitted_up ++ (a_tick ∷ checked ∷ a_tick ∷ both 2 (a_tick ∷ reports 1 ∷ a_tick
+  pub eleven_ticks : Needs fitted (fitted_up ++ (a_tick ∷ checked ∷ a_tick ∷ both 2 (a_tick ∷ reports 1 ∷ a_tick
       ∷ both 0 (a_tick ∷ cleared ∷ a_tick ∷ checked ∷ a_tick ∷ a_request 2 ∷ []))))
       (an_answer 3 2 0 ∷ a_tick ∷ reports 1 ∷ a_tick ∷ both 0 clearing) 10 14 0 18
   unfolding computed_figure
-  eleven-ticks = (refl, refl)
+  eleven_ticks = (refl, refl)
 
   -- the long delay: a second bus_off_lem, in step 7
-  pub long-and-two : Needs network
+  pub long_and_two : Needs network
       (a_tick ∷ a_tick ∷ a_tick ∷ a_tick ∷ a_tick ∷ ok 1 ∷ a_tick ∷ []) (a_bus_off ∷ a_tick ∷ ok 1 ∷ a_tick ∷ a_bus_off ∷ full) 6 2 1 5
   unfolding computed_figure
-  long-and-two = (refl, refl)
+  long_and_two = (refl, refl)
 
   -- the short delay, where it is the longer one
-  pub short-and-two : Needs (delayed 9 1 1)
+  pub short_and_two : Needs (delayed 9 1 1)
       (a_tick ∷ a_tick ∷ a_tick ∷ a_tick ∷ a_tick ∷ a_tick ∷ a_tick ∷ a_tick ∷ a_tick ∷ ok 1 ∷ a_tick ∷ []) (a_bus_off ∷ full) 10 2 1 5
   unfolding computed_figure
-  short-and-two = (refl, refl)
+  short_and_two = (refl, refl)
 
   -- with the threshold 0 the short delay never comes, and does not count
-  pub no-short-delay : most_ticks (delayed 9 1 0) ≡ 6
-  no-short-delay = refl
+  pub no_short_delay : most_ticks (delayed 9 1 0) ≡ 6
+  no_short_delay = refl

@@ -1,4 +1,4 @@
--- Wrong boxes that the promises rule out, by computation. Each does all as the product does, up to its last entry (`start-before-normal` up to the
+-- Wrong boxes that the promises rule out, by computation. Each does all as the product does, up to its last entry (`start_before_normal` up to the
 -- last four): `lives` plays the product's part in what is seen, and `lives_ran` says so. Then comes the entry that is wrong, and a proof that the
 -- named promise is false of it. One network is that of the bench sheet: handle 7, controller 3, delays 2 and 5, ensure time 3. The other differs from
 -- it by a controller 4, a transceiver 5 and partial networking. Histories have the latest first.
@@ -113,103 +113,103 @@ running = both 1 (a_tick ∷ both 0 (a_tick ∷ a_report (Report.Transceiver 0) 
 -- ---- bus_offs
 module _ where
   -- `records`: a bus_off_lem while up hands out no 7 bus_off_lem
-  pub no-bus-off-notice : BusOffs network (taken a_bus_off (row 8 7 1 ∷ row 6 7 1 ∷ [])) (lives network full) → ⊥
+  pub no_bus_off_notice : BusOffs network (taken a_bus_off (row 8 7 1 ∷ row 6 7 1 ∷ [])) (lives network full) → ⊥
   unfolding computed_life
-  no-bus-off-notice b = let z : ◌≡◌ {A = ℕ} 2 3 = ap length (b.records refl) in omega arith
+  no_bus_off_notice b = let z : ◌≡◌ {A = ℕ} 2 3 = ap length (b.records refl) in omega arith
 
   -- `records`: it hands them out in another order
-  pub bus-off-notice-first : BusOffs network (taken a_bus_off (row 7 7 3 ∷ row 8 7 1 ∷ row 6 7 1 ∷ [])) (lives network full) → ⊥
+  pub bus_off_notice_first : BusOffs network (taken a_bus_off (row 7 7 3 ∷ row 8 7 1 ∷ row 6 7 1 ∷ [])) (lives network full) → ⊥
   unfolding computed_life
-  bus-off-notice-first b = let z : ◌≡◌ {A = ℕ} 7 8 = ap (kind_at 0) (b.records refl) in omega arith
+  bus_off_notice_first b = let z : ◌≡◌ {A = ℕ} 7 8 = ap (kind_at 0) (b.records refl) in omega arith
 
   -- `records`: a bus_off_lem before the network is up hands them out
-  pub notices-before-up : BusOffs network (taken a_bus_off (row 8 7 1 ∷ row 6 7 1 ∷ row 7 7 3 ∷ [])) (lives network starting) → ⊥
+  pub notices_before_up : BusOffs network (taken a_bus_off (row 8 7 1 ∷ row 6 7 1 ∷ row 7 7 3 ∷ [])) (lives network starting) → ⊥
   unfolding computed_life
-  notices-before-up b = let z : ◌≡◌ {A = ℕ} 3 0 = ap length (b.records refl) in omega arith
+  notices_before_up b = let z : ◌≡◌ {A = ℕ} 3 0 = ap length (b.records refl) in omega arith
 
   -- `accepted`: a bus_off_lem is taken only while up, and refused where the controller was asked to start
-  pub bus-off-refused-before-up : BusOffs network (refused a_bus_off) (lives network starting) → ⊥
+  pub bus_off_refused_before_up : BusOffs network (refused a_bus_off) (lives network starting) → ⊥
   unfolding computed_life
-  bus-off-refused-before-up b = false≢true (b.accepted refl 3 refl)
+  bus_off_refused_before_up b = false≢true (b.accepted refl 3 refl)
 
   -- `accepted`: a bus_off_lem is taken while the network goes down
-  pub bus-off-taken-going-down : BusOffs network (taken a_bus_off []) (lives network falling) → ⊥
+  pub bus_off_taken_going_down : BusOffs network (taken a_bus_off []) (lives network falling) → ⊥
   unfolding computed_life
-  bus-off-taken-going-down b = true≢false (b.accepted refl 3 refl)
+  bus_off_taken_going_down b = true≢false (b.accepted refl 3 refl)
 
   -- `records`: a second bus_off_lem, while the network restarts, hands out nothing
-  pub second-report-hidden : BusOffs network (taken a_bus_off []) (lives network restarting) → ⊥
+  pub second_report_hidden : BusOffs network (taken a_bus_off []) (lives network restarting) → ⊥
   unfolding computed_life
-  second-report-hidden b = let z : ◌≡◌ {A = ℕ} 0 3 = ap length (b.records refl) in omega arith
+  second_report_hidden b = let z : ◌≡◌ {A = ℕ} 0 3 = ap length (b.records refl) in omega arith
 
   -- `records`: a bus_off_lem after a stall hands out nothing
-  pub bus-off-hidden-by-a-stall : BusOffs network (taken a_bus_off []) (lives network resetting) → ⊥
+  pub bus_off_hidden_by_a_stall : BusOffs network (taken a_bus_off []) (lives network resetting) → ⊥
   unfolding computed_life
-  bus-off-hidden-by-a-stall b = let z : ◌≡◌ {A = ℕ} 0 3 = ap length (b.records refl) in omega arith
+  bus_off_hidden_by_a_stall b = let z : ◌≡◌ {A = ℕ} 0 3 = ap length (b.records refl) in omega arith
 
 -- ---- stalls
 module _ where
   -- `accepted`: a stall is taken where the network is silent
-  pub stall-taken-in-silent : Stalls network (taken a_stall (row 6 7 1 ∷ [])) (lives network (a_tick ∷ a_request 1 ∷ full)) → ⊥
+  pub stall_taken_in_silent : Stalls network (taken a_stall (row 6 7 1 ∷ [])) (lives network (a_tick ∷ a_request 1 ∷ full)) → ⊥
   unfolding computed_life
-  stall-taken-in-silent s = true≢false (s.accepted refl)
+  stall_taken_in_silent s = true≢false (s.accepted refl)
 
   -- `accepted`: a stall is taken during a recovery, and begins a reset
-  pub stall-taken-in-a-recovery : Stalls network (taken a_stall (row 6 7 1 ∷ [])) (lives network restarting) → ⊥
+  pub stall_taken_in_a_recovery : Stalls network (taken a_stall (row 6 7 1 ∷ [])) (lives network restarting) → ⊥
   unfolding computed_life
-  stall-taken-in-a-recovery s = true≢false (s.accepted refl)
+  stall_taken_in_a_recovery s = true≢false (s.accepted refl)
 
   -- `accepted`: a second stall begins the reset anew
-  pub stall-taken-twice : Stalls network (taken a_stall (row 6 7 1 ∷ [])) (lives network resetting) → ⊥
+  pub stall_taken_twice : Stalls network (taken a_stall (row 6 7 1 ∷ [])) (lives network resetting) → ⊥
   unfolding computed_life
-  stall-taken-twice s = true≢false (s.accepted refl)
+  stall_taken_twice s = true≢false (s.accepted refl)
 
   -- `accepted`: every stall is refused, also while full is told
-  pub stall-refused : Stalls network (refused a_stall) (lives network full) → ⊥
+  pub stall_refused : Stalls network (refused a_stall) (lives network full) → ⊥
   unfolding computed_life
-  stall-refused s = false≢true (s.accepted refl)
+  stall_refused s = false≢true (s.accepted refl)
 
   -- `records`: a stall tells the mode manager too
-  pub stall-noted : Stalls network (taken a_stall (row 6 7 1 ∷ row 7 7 1 ∷ [])) (lives network full) → ⊥
+  pub stall_noted : Stalls network (taken a_stall (row 6 7 1 ∷ row 7 7 1 ∷ [])) (lives network full) → ⊥
   unfolding computed_life
-  stall-noted s = let z : ◌≡◌ {A = ℕ} 2 1 = ap length (s.records refl) in omega arith
+  stall_noted s = let z : ◌≡◌ {A = ℕ} 2 1 = ap length (s.records refl) in omega arith
 
   -- `records`: a stall is taken, and nobody hears of it
-  pub stall-untold : Stalls network (taken a_stall []) (lives network full) → ⊥
+  pub stall_untold : Stalls network (taken a_stall []) (lives network full) → ⊥
   unfolding computed_life
-  stall-untold s = let z : ◌≡◌ {A = ℕ} 0 1 = ap length (s.records refl) in omega arith
+  stall_untold s = let z : ◌≡◌ {A = ℕ} 0 1 = ap length (s.records refl) in omega arith
 
 -- ---- answers
 module _ where
   -- `controllers`: an answer to the request to stop from before the stall is taken
-  pub answer-kept-over-a-stall : Answers network (taken (ok 0) []) (lives network (a_stall ∷ full)) → ⊥
+  pub answer_kept_over_a_stall : Answers network (taken (ok 0) []) (lives network (a_stall ∷ full)) → ⊥
   unfolding computed_life
-  answer-kept-over-a-stall a = true≢false (a.controllers 3 0 1 refl refl)
+  answer_kept_over_a_stall a = true≢false (a.controllers 3 0 1 refl refl)
 
   -- `controllers`: a not ok after an ok is refused
-  pub not-ok-after-ok-refused : Answers network (refused (an_answer 3 0 0)) (lives network (ok 0 ∷ stopping)) → ⊥
+  pub not_ok_after_ok_refused : Answers network (refused (an_answer 3 0 0)) (lives network (ok 0 ∷ stopping)) → ⊥
   unfolding computed_life
-  not-ok-after-ok-refused a = false≢true (a.controllers 3 0 0 refl refl)
+  not_ok_after_ok_refused a = false≢true (a.controllers 3 0 0 refl refl)
 
   -- `controllers`: an answer is taken between a bus_off_lem and the next request
-  pub taken-before-it-is-asked : Answers network (taken (ok 1) []) (lives network (a_bus_off ∷ restarting)) → ⊥
+  pub taken_before_it_is_asked : Answers network (taken (ok 1) []) (lives network (a_bus_off ∷ restarting)) → ⊥
   unfolding computed_life
-  taken-before-it-is-asked a = true≢false (a.controllers 3 1 1 refl refl)
+  taken_before_it_is_asked a = true≢false (a.controllers 3 1 1 refl refl)
 
   -- `controllers`: an answer on another mode than the one asked for is taken
-  pub another-mode-taken : Answers network (taken (ok 2) []) (lives network starting) → ⊥
+  pub another_mode_taken : Answers network (taken (ok 2) []) (lives network starting) → ⊥
   unfolding computed_life
-  another-mode-taken a = true≢false (a.controllers 3 2 1 refl refl)
+  another_mode_taken a = true≢false (a.controllers 3 2 1 refl refl)
 
   -- `transceivers`: the report of standby is taken where normal is asked for
-  pub standby-taken-for-normal : Answers fitted (taken (a_report (Report.Transceiver 1)) []) (lives fitted (a_tick ∷ resting)) → ⊥
+  pub standby_taken_for_normal : Answers fitted (taken (a_report (Report.Transceiver 1)) []) (lives fitted (a_tick ∷ resting)) → ⊥
   unfolding computed_life
-  standby-taken-for-normal a = true≢false (a.transceivers 5 1 refl refl)
+  standby_taken_for_normal a = true≢false (a.transceivers 5 1 refl refl)
 
   -- `clears`: that the wake flag was cleared is taken once more in the next step
-  pub cleared-taken-late : Answers fitted (taken (a_report Report.Cleared) []) (lives fitted clearing) → ⊥
+  pub cleared_taken_late : Answers fitted (taken (a_report Report.Cleared) []) (lives fitted clearing) → ⊥
   unfolding computed_life
-  cleared-taken-late a = true≢false (a.clears 5 refl refl)
+  cleared_taken_late a = true≢false (a.clears 5 refl refl)
 
   -- `checks`: that the wake flag was checked is refused
   pub checked_refused : Answers fitted (refused (a_report Report.Checked)) (lives fitted checking) → ⊥
@@ -219,230 +219,230 @@ module _ where
 -- ---- requests
 module _ where
   -- `accepted`: silent is taken while the network comes up
-  pub silent-coming-up : Requests network (taken (a_request 1) []) (lives network starting) → ⊥
+  pub silent_coming_up : Requests network (taken (a_request 1) []) (lives network starting) → ⊥
   unfolding computed_life
-  silent-coming-up q = true≢false (q.accepted 1 refl)
+  silent_coming_up q = true≢false (q.accepted 1 refl)
 
   -- `accepted`: silent is refused while the network restarts after a bus_off_lem
-  pub silent-refused-restarting : Requests network (refused (a_request 1)) (lives network restarting) → ⊥
+  pub silent_refused_restarting : Requests network (refused (a_request 1)) (lives network restarting) → ⊥
   unfolding computed_life
-  silent-refused-restarting q = false≢true (q.accepted 1 refl)
+  silent_refused_restarting q = false≢true (q.accepted 1 refl)
 
   -- `accepted`: silent is refused during a reset
-  pub silent-refused-resetting : Requests network (refused (a_request 1)) (lives network resetting) → ⊥
+  pub silent_refused_resetting : Requests network (refused (a_request 1)) (lives network resetting) → ⊥
   unfolding computed_life
-  silent-refused-resetting q = false≢true (q.accepted 1 refl)
+  silent_refused_resetting q = false≢true (q.accepted 1 refl)
 
   -- `asleep`: silent is refused with 08 while the network comes up, as older boxes did
-  pub silent-coming-up-with-08 : Requests network (refused_with 0x08 (a_request 1)) (lives network starting) → ⊥
+  pub silent_coming_up_with_08 : Requests network (refused_with 0x08 (a_request 1)) (lives network starting) → ⊥
   unfolding computed_life
-  silent-coming-up-with-08 q = true≢false (q.asleep 1 refl)
+  silent_coming_up_with_08 q = true≢false (q.asleep 1 refl)
 
   -- `asleep`: and while it goes down
-  pub silent-going-down-with-08 : Requests network (refused_with 0x08 (a_request 1)) (lives network falling) → ⊥
+  pub silent_going_down_with_08 : Requests network (refused_with 0x08 (a_request 1)) (lives network falling) → ⊥
   unfolding computed_life
-  silent-going-down-with-08 q = true≢false (q.asleep 1 refl)
+  silent_going_down_with_08 q = true≢false (q.asleep 1 refl)
 
   -- `asleep`: a network at rest is said to come up as soon as full is wanted, before any tick
-  pub silent-wanted-full-with-24 : Requests network (refused_with 0x24 (a_request 1)) (lives network (a_request 2 ∷ rest)) → ⊥
+  pub silent_wanted_full_with_24 : Requests network (refused_with 0x24 (a_request 1)) (lives network (a_request 2 ∷ rest)) → ⊥
   unfolding computed_life
-  silent-wanted-full-with-24 q = false≢true (q.asleep 1 refl)
+  silent_wanted_full_with_24 q = false≢true (q.asleep 1 refl)
 
   -- `coming_up_lem`: 24 and 25 are swapped
-  pub silent-coming-up-with-25 : Requests network (refused_with 0x25 (a_request 1)) (lives network starting) → ⊥
+  pub silent_coming_up_with_25 : Requests network (refused_with 0x25 (a_request 1)) (lives network starting) → ⊥
   unfolding computed_life
-  silent-coming-up-with-25 q = false≢true (q.coming_up_lem 1 refl)
+  silent_coming_up_with_25 q = false≢true (q.coming_up_lem 1 refl)
 
   -- `coming_up_lem`: and the other way round
-  pub silent-going-down-with-24 : Requests network (refused_with 0x24 (a_request 1)) (lives network falling) → ⊥
+  pub silent_going_down_with_24 : Requests network (refused_with 0x24 (a_request 1)) (lives network falling) → ⊥
   unfolding computed_life
-  silent-going-down-with-24 q = true≢false (q.coming_up_lem 1 refl)
+  silent_going_down_with_24 q = true≢false (q.coming_up_lem 1 refl)
 
   -- `going_down_lem`: from the start on a network goes down, and is not asleep before it came to rest
-  pub silent-after-the-start-with-08 : Requests network (refused_with 0x08 (a_request 1)) (lives network []) → ⊥
+  pub silent_after_the_start_with_08 : Requests network (refused_with 0x08 (a_request 1)) (lives network []) → ⊥
   unfolding computed_life
-  silent-after-the-start-with-08 q = false≢true (q.going_down_lem 1 refl)
+  silent_after_the_start_with_08 q = false≢true (q.going_down_lem 1 refl)
 
   -- `going_down_lem`: silent is refused with 25 where the network is silent already
-  pub silent-in-silent-with-25 : Requests network (refused_with 0x25 (a_request 1)) (lives network (a_tick ∷ a_request 1 ∷ full)) → ⊥
+  pub silent_in_silent_with_25 : Requests network (refused_with 0x25 (a_request 1)) (lives network (a_tick ∷ a_request 1 ∷ full)) → ⊥
   unfolding computed_life
-  silent-in-silent-with-25 q = true≢false (q.going_down_lem 1 refl)
+  silent_in_silent_with_25 q = true≢false (q.going_down_lem 1 refl)
 
   -- `asleep`: full is refused with 08 at rest
-  pub full-refused-with-08 : Requests network (refused_with 0x08 (a_request 2)) (lives network rest) → ⊥
+  pub full_refused_with_08 : Requests network (refused_with 0x08 (a_request 2)) (lives network rest) → ⊥
   unfolding computed_life
-  full-refused-with-08 q = true≢false (q.asleep 2 refl)
+  full_refused_with_08 q = true≢false (q.asleep 2 refl)
 
   -- `out_of_range`: a mode of 3 is refused as silent is
-  pub mode-above-2-with-08 : Requests network (refused_with 0x08 (a_request 3)) (lives network rest) → ⊥
+  pub mode_above_2_with_08 : Requests network (refused_with 0x08 (a_request 3)) (lives network rest) → ⊥
   unfolding computed_life
-  mode-above-2-with-08 q = false≢true (q.out_of_range 3 refl)
+  mode_above_2_with_08 q = false≢true (q.out_of_range 3 refl)
 
 -- ---- ticks
 module _ where
   -- `stays_full`: full stays told where silent is wanted
-  pub full-though-silent-is-wanted : Ticks network (ticks []) (lives network (a_request 1 ∷ full)) → ⊥
+  pub full_though_silent_is_wanted : Ticks network (ticks []) (lives network (a_request 1 ∷ full)) → ⊥
   unfolding computed_life
-  full-though-silent-is-wanted t = true≢false (t.stays_full refl refl)
+  full_though_silent_is_wanted t = true≢false (t.stays_full refl refl)
 
   -- `says_full`: full is said after the delay, where silent is wanted
-  pub full-where-silent-is-wanted : Ticks network (ticks (row 3 3 0 ∷ row 6 7 2 ∷ row 7 7 2 ∷ []))
+  pub full_where_silent_is_wanted : Ticks network (ticks (row 3 3 0 ∷ row 6 7 2 ∷ row 7 7 2 ∷ []))
       (lives network (a_request 1 ∷ a_tick ∷ a_tick ∷ ok 1 ∷ restarting)) → ⊥
   unfolding computed_life
-  full-where-silent-is-wanted t = let z : ◌≡◌ {A = ℕ} 1 2 = (t.says_full refl).called in omega arith
+  full_where_silent_is_wanted t = let z : ◌≡◌ {A = ℕ} 1 2 = (t.says_full refl).called in omega arith
 
   -- `says_full`: full is said by the answer, before a tick
-  pub full-by-the-answer : Ticks network (taken (ok 1) (row 3 3 0 ∷ row 6 7 2 ∷ row 7 7 2 ∷ [])) (lives network starting) → ⊥
+  pub full_by_the_answer : Ticks network (taken (ok 1) (row 3 3 0 ∷ row 6 7 2 ∷ row 7 7 2 ∷ [])) (lives network starting) → ⊥
   unfolding computed_life
-  full-by-the-answer t = false≢true (t.says_full refl).tick
+  full_by_the_answer t = false≢true (t.says_full refl).tick
 
   -- `says_no`: where silent is wanted it tells no, without a shutdown
-  pub no-instead-of-silent : Ticks network (ticks (row 6 7 0 ∷ [])) (lives network (a_request 1 ∷ full)) → ⊥
+  pub no_instead_of_silent : Ticks network (ticks (row 6 7 0 ∷ [])) (lives network (a_request 1 ∷ full)) → ⊥
   unfolding computed_life
-  no-instead-of-silent t = true≢false (t.says_no refl)
+  no_instead_of_silent t = true≢false (t.says_no refl)
 
   -- `shuts`: after a late answer it hands out 7 no, where full is wanted
-  pub no-after-a-late-answer : Ticks network (ticks (row 7 7 0 ∷ row 1 3 0 ∷ [])) (lives network (ok 1 ∷ a_tick ∷ starting)) → ⊥
+  pub no_after_a_late_answer : Ticks network (ticks (row 7 7 0 ∷ row 1 3 0 ∷ [])) (lives network (ok 1 ∷ a_tick ∷ starting)) → ⊥
   unfolding computed_life
-  no-after-a-late-answer t = true≢false t.shuts
+  no_after_a_late_answer t = true≢false t.shuts
 
   -- `shuts`: no is wanted while the network comes up, and it goes on to come up
-  pub no-shutdown-coming-up : Ticks network (ticks (row 1 3 1 ∷ [])) (lives network (a_request 0 ∷ starting)) → ⊥
+  pub no_shutdown_coming_up : Ticks network (ticks (row 1 3 1 ∷ [])) (lives network (a_request 0 ∷ starting)) → ⊥
   unfolding computed_life
-  no-shutdown-coming-up t = false≢true t.shuts
+  no_shutdown_coming_up t = false≢true t.shuts
 
   -- `shuts_first`: 6 silent comes before 7 no
-  pub silent-before-no : Ticks network (ticks (row 6 7 1 ∷ row 7 7 0 ∷ row 1 3 0 ∷ [])) (lives network (a_request 0 ∷ full)) → ⊥
+  pub silent_before_no : Ticks network (ticks (row 6 7 1 ∷ row 7 7 0 ∷ row 1 3 0 ∷ [])) (lives network (a_request 0 ∷ full)) → ⊥
   unfolding computed_life
-  silent-before-no t = let z : ◌≡◌ {A = ℕ} 6 7 = ap (kind_at 0) (t.shuts_first refl).records in omega arith
+  silent_before_no t = let z : ◌≡◌ {A = ℕ} 6 7 = ap (kind_at 0) (t.shuts_first refl).records in omega arith
 
   -- `shuts_first`: 6 silent is left out, though full was told
-  pub silent-left-out : Ticks network (ticks (row 7 7 0 ∷ row 1 3 0 ∷ [])) (lives network (a_request 0 ∷ full)) → ⊥
+  pub silent_left_out : Ticks network (ticks (row 7 7 0 ∷ row 1 3 0 ∷ [])) (lives network (a_request 0 ∷ full)) → ⊥
   unfolding computed_life
-  silent-left-out t = let z : ◌≡◌ {A = ℕ} 1 6 = ap (kind_at 1) (t.shuts_first refl).records in omega arith
+  silent_left_out t = let z : ◌≡◌ {A = ℕ} 1 6 = ap (kind_at 1) (t.shuts_first refl).records in omega arith
 
   -- `passes`: passed comes a tick early, on the second after full was said
-  pub passed-a-tick-early : Ticks network (ticks (row 8 7 0 ∷ [])) (lives network (a_tick ∷ full)) → ⊥
+  pub passed_a_tick_early : Ticks network (ticks (row 8 7 0 ∷ [])) (lives network (a_tick ∷ full)) → ⊥
   unfolding computed_life
-  passed-a-tick-early t = true≢false t.passes
+  passed_a_tick_early t = true≢false t.passes
 
   -- `passes`: it does not come on the third
-  pub passed-left-out : Ticks network (ticks []) (lives network (a_tick ∷ a_tick ∷ full)) → ⊥
+  pub passed_left_out : Ticks network (ticks []) (lives network (a_tick ∷ a_tick ∷ full)) → ⊥
   unfolding computed_life
-  passed-left-out t = false≢true t.passes
+  passed_left_out t = false≢true t.passes
 
   -- `online`: the controller goes online when it runs again, before full is said
-  pub online-before-full : Ticks network (ticks (row 3 3 0 ∷ [])) (lives network (ok 1 ∷ restarting)) → ⊥
+  pub online_before_full : Ticks network (ticks (row 3 3 0 ∷ [])) (lives network (ok 1 ∷ restarting)) → ⊥
   unfolding computed_life
-  online-before-full t = true≢false (t.online 3 refl)
+  online_before_full t = true≢false (t.online 3 refl)
 
   -- `online`: of two controllers only the first goes online
-  pub second-left-offline : Ticks fitted (ticks (row 3 3 0 ∷ row 6 7 2 ∷ row 7 7 2 ∷ [])) (lives fitted running) → ⊥
+  pub second_left_offline : Ticks fitted (ticks (row 3 3 0 ∷ row 6 7 2 ∷ row 7 7 2 ∷ [])) (lives fitted running) → ⊥
   unfolding computed_life
-  second-left-offline t = false≢true (t.online 4 refl)
+  second_left_offline t = false≢true (t.online 4 refl)
 
   -- `notes_full`: 7 full goes out once more on the tick after full was said
-  pub full-noted-twice : Ticks network (ticks (row 7 7 2 ∷ [])) (lives network full) → ⊥
+  pub full_noted_twice : Ticks network (ticks (row 7 7 2 ∷ [])) (lives network full) → ⊥
   unfolding computed_life
-  full-noted-twice t = true≢false t.notes_full
+  full_noted_twice t = true≢false t.notes_full
 
   -- `notes_full`: full is said, and 7 full left out
-  pub full-not-noted : Ticks network (ticks (row 3 3 0 ∷ row 6 7 2 ∷ [])) (lives network (ok 1 ∷ starting)) → ⊥
+  pub full_not_noted : Ticks network (ticks (row 3 3 0 ∷ row 6 7 2 ∷ [])) (lives network (ok 1 ∷ starting)) → ⊥
   unfolding computed_life
-  full-not-noted t = false≢true t.notes_full
+  full_not_noted t = false≢true t.notes_full
 
   -- `notes_silent`: silent is told, and 7 silent left out
-  pub silent-not-noted : Ticks network (ticks (row 3 3 1 ∷ row 6 7 1 ∷ [])) (lives network (a_request 1 ∷ full)) → ⊥
+  pub silent_not_noted : Ticks network (ticks (row 3 3 1 ∷ row 6 7 1 ∷ [])) (lives network (a_request 1 ∷ full)) → ⊥
   unfolding computed_life
-  silent-not-noted t = false≢true t.notes_silent
+  silent_not_noted t = false≢true t.notes_silent
 
   -- `notes_silent`: the tick that begins the wait hands out 7 silent, and no 6 silent
-  pub wait-noted-as-silent : Ticks network (ticks (row 3 3 1 ∷ row 7 7 1 ∷ [])) (lives network (ok 1 ∷ restarting)) → ⊥
+  pub wait_noted_as_silent : Ticks network (ticks (row 3 3 1 ∷ row 7 7 1 ∷ [])) (lives network (ok 1 ∷ restarting)) → ⊥
   unfolding computed_life
-  wait-noted-as-silent t = true≢false t.notes_silent
+  wait_noted_as_silent t = true≢false t.notes_silent
 
   -- `enters_silent`: while the network restarts it says silent in the place of asking again, so that a second bus_off_lem would count
-  pub silent-while-restarting : Ticks network (ticks (row 3 3 1 ∷ row 6 7 1 ∷ row 7 7 1 ∷ [])) (lives network (a_request 1 ∷ restarting)) → ⊥
+  pub silent_while_restarting : Ticks network (ticks (row 3 3 1 ∷ row 6 7 1 ∷ row 7 7 1 ∷ [])) (lives network (a_request 1 ∷ restarting)) → ⊥
   unfolding computed_life
-  silent-while-restarting t = true≢false (t.enters_silent refl).settled
+  silent_while_restarting t = true≢false (t.enters_silent refl).settled
 
   -- `enters_silent`: it enters silent where full is wanted
-  pub silent-where-full-is-wanted : Ticks network (ticks (row 3 3 1 ∷ row 6 7 1 ∷ row 7 7 1 ∷ [])) (lives network full) → ⊥
+  pub silent_where_full_is_wanted : Ticks network (ticks (row 3 3 1 ∷ row 6 7 1 ∷ row 7 7 1 ∷ [])) (lives network full) → ⊥
   unfolding computed_life
-  silent-where-full-is-wanted t = let z : ◌≡◌ {A = ℕ} 2 1 = (t.enters_silent refl).called in omega arith
+  silent_where_full_is_wanted t = let z : ◌≡◌ {A = ℕ} 2 1 = (t.enters_silent refl).called in omega arith
 
   -- `offline`: silent is told, and the controller stays online
-  pub online-in-silent : Ticks network (ticks (row 6 7 1 ∷ row 7 7 1 ∷ [])) (lives network (a_request 1 ∷ full)) → ⊥
+  pub online_in_silent : Ticks network (ticks (row 6 7 1 ∷ row 7 7 1 ∷ [])) (lives network (a_request 1 ∷ full)) → ⊥
   unfolding computed_life
-  online-in-silent t = false≢true (t.offline 3 refl)
+  online_in_silent t = false≢true (t.offline 3 refl)
 
   -- `offline`: the wait after a bus_off_lem begins, and the controller does not go offline
-  pub online-in-the-wait : Ticks network (ticks []) (lives network (ok 1 ∷ restarting)) → ⊥
+  pub online_in_the_wait : Ticks network (ticks []) (lives network (ok 1 ∷ restarting)) → ⊥
   unfolding computed_life
-  online-in-the-wait t = false≢true (t.offline 3 refl)
+  online_in_the_wait t = false≢true (t.offline 3 refl)
 
   -- `offline`: it goes offline once more on the second tick of the wait
-  pub offline-twice : Ticks network (ticks (row 3 3 1 ∷ [])) (lives network (a_tick ∷ ok 1 ∷ restarting)) → ⊥
+  pub offline_twice : Ticks network (ticks (row 3 3 1 ∷ [])) (lives network (a_tick ∷ ok 1 ∷ restarting)) → ⊥
   unfolding computed_life
-  offline-twice t = true≢false (t.offline 3 refl)
+  offline_twice t = true≢false (t.offline 3 refl)
 
   -- `notes_bus_off`: 7 bus_off_lem goes out once more on the tick after the bus_off_lem
-  pub bus-off-noted-by-a-tick : Ticks network (ticks (row 7 7 3 ∷ row 1 3 1 ∷ [])) (lives network (a_bus_off ∷ full)) → ⊥
+  pub bus_off_noted_by_a_tick : Ticks network (ticks (row 7 7 3 ∷ row 1 3 1 ∷ [])) (lives network (a_bus_off ∷ full)) → ⊥
   unfolding computed_life
-  bus-off-noted-by-a-tick t = true≢false t.notes_bus_off
+  bus_off_noted_by_a_tick t = true≢false t.notes_bus_off
 
   -- `prefails`: 8 prefailed goes out on a tick of the check, without a bus_off_lem
-  pub prefailed-by-a-tick : Ticks network (ticks (row 8 7 1 ∷ [])) (lives network full) → ⊥
+  pub prefailed_by_a_tick : Ticks network (ticks (row 8 7 1 ∷ [])) (lives network full) → ⊥
   unfolding computed_life
-  prefailed-by-a-tick t = true≢false t.prefails
+  prefailed_by_a_tick t = true≢false t.prefails
 
   -- `stays_down`: the controller is asked to start while the network goes down
-  pub start-going-down : Ticks network (ticks (row 1 3 1 ∷ [])) (lives network (a_request 2 ∷ falling)) → ⊥
+  pub start_going_down : Ticks network (ticks (row 1 3 1 ∷ [])) (lives network (a_request 2 ∷ falling)) → ⊥
   unfolding computed_life
-  start-going-down t = true≢false ((t.stays_down refl).not_started 3)
+  start_going_down t = true≢false ((t.stays_down refl).not_started 3)
 
   -- `full_asks_nothing`: the controller is stopped while full is told
-  pub stopped-while-full : Ticks network (ticks (row 1 3 0 ∷ [])) (lives network full) → ⊥
+  pub stopped_while_full : Ticks network (ticks (row 1 3 0 ∷ [])) (lives network full) → ⊥
   unfolding computed_life
-  stopped-while-full t = true≢false (t.full_asks_nothing refl)
+  stopped_while_full t = true≢false (t.full_asks_nothing refl)
 
   -- `starts`: the controller is asked to start before it said that it is stopped
-  pub start-without-stopped : Ticks network (ticks (row 1 3 1 ∷ [])) (lives network stopping) → ⊥
+  pub start_without_stopped : Ticks network (ticks (row 1 3 1 ∷ [])) (lives network stopping) → ⊥
   unfolding computed_life
-  start-without-stopped t = false≢true (((t.starts 3 refl).prepared refl).stopped 3 refl)
+  start_without_stopped t = false≢true (((t.starts 3 refl).prepared refl).stopped 3 refl)
 
   -- `starts`: the controllers are stopped and started without a word from the transceiver
-  pub start-before-normal : Ticks fitted (ticks (row 1 3 1 ∷ row 1 4 1 ∷ [])) (taken (an_answer 4 0 1) [] ∷ taken (ok 0) [] ∷ ticks
+  pub start_before_normal : Ticks fitted (ticks (row 1 3 1 ∷ row 1 4 1 ∷ [])) (taken (an_answer 4 0 1) [] ∷ taken (ok 0) [] ∷ ticks
       (row 1 3 0 ∷ row 1 4 0 ∷ []) ∷ lives fitted resting) → ⊥
   unfolding computed_life
-  start-before-normal t = false≢true (((t.starts 3 refl).prepared refl).normal 5 refl)
+  start_before_normal t = false≢true (((t.starts 3 refl).prepared refl).normal 5 refl)
 
   -- `starts`: after a stall the controller is asked to start at once, and was not stopped
-  pub start-without-a-stop : Ticks network (ticks (row 1 3 1 ∷ [])) (lives network (a_stall ∷ full)) → ⊥
+  pub start_without_a_stop : Ticks network (ticks (row 1 3 1 ∷ [])) (lives network (a_stall ∷ full)) → ⊥
   unfolding computed_life
-  start-without-a-stop t = false≢true ((t.starts 3 refl).stopped refl refl 3 refl)
+  start_without_a_stop t = false≢true ((t.starts 3 refl).stopped refl refl 3 refl)
 
   -- `starts`: it is asked to start though it refused to stop
-  pub start-after-a-refusal : Ticks network (ticks (row 1 3 1 ∷ [])) (lives network (an_answer 3 0 0 ∷ resetting)) → ⊥
+  pub start_after_a_refusal : Ticks network (ticks (row 1 3 1 ∷ [])) (lives network (an_answer 3 0 0 ∷ resetting)) → ⊥
   unfolding computed_life
-  start-after-a-refusal t = false≢true ((t.starts 3 refl).stopped refl refl 3 refl)
+  start_after_a_refusal t = false≢true ((t.starts 3 refl).stopped refl refl 3 refl)
 
   -- `starts`: it is asked to start once more though no is wanted
-  pub start-though-no-is-wanted : Ticks network (ticks (row 1 3 1 ∷ [])) (lives network (a_request 0 ∷ starting)) → ⊥
+  pub start_though_no_is_wanted : Ticks network (ticks (row 1 3 1 ∷ [])) (lives network (a_request 0 ∷ starting)) → ⊥
   unfolding computed_life
-  start-though-no-is-wanted t = true≢false (t.starts 3 refl).called
+  start_though_no_is_wanted t = true≢false (t.starts 3 refl).called
 
   -- `known`: kind 8 with an argument that means nothing
-  pub meaningless-status : Ticks network (ticks (row 8 7 2 ∷ [])) (lives network full) → ⊥
+  pub meaningless_status : Ticks network (ticks (row 8 7 2 ∷ [])) (lives network full) → ⊥
   unfolding computed_life
-  meaningless-status t = true≢false t.known
+  meaningless_status t = true≢false t.known
 
   -- `few`: the request goes out four times in one tick
-  pub four-requests : Ticks network (ticks (row 1 3 0 ∷ row 1 3 0 ∷ row 1 3 0 ∷ row 1 3 0 ∷ [])) (lives network (a_request 2 ∷ rest)) → ⊥
+  pub four_requests : Ticks network (ticks (row 1 3 0 ∷ row 1 3 0 ∷ row 1 3 0 ∷ row 1 3 0 ∷ [])) (lives network (a_request 2 ∷ rest)) → ⊥
   unfolding computed_life
-  four-requests t = let z : 4 ≤ 3 = t.few refl in omega arith
+  four_requests t = let z : 4 ≤ 3 = t.few refl in omega arith
 
   -- `none`: the next request goes out with the answer
-  pub request-by-the-answer : Ticks network (taken (ok 0) (row 1 3 1 ∷ [])) (lives network stopping) → ⊥
+  pub request_by_the_answer : Ticks network (taken (ok 0) (row 1 3 1 ∷ [])) (lives network stopping) → ⊥
   unfolding computed_life
-  request-by-the-answer t = let z : ◌≡◌ {A = ℕ} 1 0 = ap length (t.none refl refl refl) in omega arith
+  request_by_the_answer t = let z : ◌≡◌ {A = ℕ} 1 0 = ap length (t.none refl refl refl) in omega arith

@@ -83,45 +83,45 @@ quietened = hears 1 (handed 3 3 2 ∷ []) ∷ came_up_by_calls
 
 module _ where
   -- it accepts the call and goes on sending
-  pub sends-on : LastHeard network (hears 1 [] ∷ came_up_by_calls) → ⊥
+  pub sends_on : LastHeard network (hears 1 [] ∷ came_up_by_calls) → ⊥
   unfolding computed_words keep unturned own_record targets_of listening last_pdu pdu_by
-  sends-on s = let z : ◌≡◌ {A = ℕ} 0 2 = s refl 3 refl in omega (arith, z)
+  sends_on s = let z : ◌≡◌ {A = ℕ} 0 2 = s refl 3 refl in omega (arith, z)
 
   -- it leaves a network out that is on its way through a stall, in step 15
-  pub step-15-left-out : LastHeard network (hears 1 [] ∷ entry (stall 7 3) 0 (handed 6 7 1 ∷ []) ∷ came_up_by_calls) → ⊥
+  pub step_15_left_out : LastHeard network (hears 1 [] ∷ entry (stall 7 3) 0 (handed 6 7 1 ∷ []) ∷ came_up_by_calls) → ⊥
   unfolding computed_words keep unturned own_record targets_of listening last_pdu pdu_by
-  step-15-left-out s = let z : ◌≡◌ {A = ℕ} 0 2 = s refl 3 refl in omega (arith, z)
+  step_15_left_out s = let z : ◌≡◌ {A = ℕ} 0 2 = s refl 3 refl in omega (arith, z)
 
   -- it stays quiet when listening is cleared
-  pub stays-quiet : LastHeard network (hears 0 [] ∷ quietened) → ⊥
+  pub stays_quiet : LastHeard network (hears 0 [] ∷ quietened) → ⊥
   unfolding computed_words keep unturned own_record targets_of listening last_pdu pdu_by
-  stays-quiet s = let z : ◌≡◌ {A = ℕ} 2 0 = s refl 3 refl in omega (arith, z)
+  stays_quiet s = let z : ◌≡◌ {A = ℕ} 2 0 = s refl 3 refl in omega (arith, z)
 
   -- it hands out the form from before
-  pub old-form : HandsAnew network (hears 1 (handed 3 3 0 ∷ [])) came_up_by_calls → ⊥
+  pub old_form : HandsAnew network (hears 1 (handed 3 3 0 ∷ [])) came_up_by_calls → ⊥
   unfolding computed_words keep unturned own_record targets_of listening
-  old-form s = let z : ◌≡◌ {A = ℕ} 0 2 = ap argumentOf (s true refl refl) in omega (arith, z)
+  old_form s = let z : ◌≡◌ {A = ℕ} 0 2 = ap argument_of (s true refl refl) in omega (arith, z)
     where
-      argumentOf : List Record → ℕ
-      argumentOf [] = 1
-      argumentOf (r ∷ rs) = r.argument
+      argument_of : List Record → ℕ
+      argument_of [] = 1
+      argument_of (r ∷ rs) = r.argument
 
   -- it hands out twice where listening is set twice
-  pub handed-out-twice : NotAgain (hears 1 (handed 3 3 2 ∷ [])) quietened → ⊥
+  pub handed_out_twice : NotAgain (hears 1 (handed 3 3 2 ∷ [])) quietened → ⊥
   unfolding listening
-  handed-out-twice s = let z : ◌≡◌ {A = ℕ} 1 0 = ap length (s true refl refl) in omega (arith, z)
+  handed_out_twice s = let z : ◌≡◌ {A = ℕ} 1 0 = ap length (s true refl refl) in omega (arith, z)
 
   -- a tick lets the controller send while the manager listens
-  pub online-on-a-tick : Quiet (entry (tick 9) 0 (handed 3 3 0 ∷ handed 6 7 2 ∷ handed 7 7 2 ∷ [])) (hears 1 [] ∷ []) → ⊥
+  pub online_on_a_tick : Quiet (entry (tick 9) 0 (handed 3 3 0 ∷ handed 6 7 2 ∷ handed 7 7 2 ∷ [])) (hears 1 [] ∷ []) → ⊥
   unfolding listening computed_words
-  online-on-a-tick s = true≢false (s refl)
+  online_on_a_tick s = true≢false (s refl)
 
   -- TX offline goes out with argument 2 too: a tick enters silent and seems to let the controller send
-  pub offline-turned : Ticks network (view_of network (entry (tick 9) 0 (handed 3 3 2 ∷ handed 6 7 1 ∷ handed 7 7 1 ∷ []))) (views_of network quietened) → ⊥
+  pub offline_turned : Ticks network (view_of network (entry (tick 9) 0 (handed 3 3 2 ∷ handed 6 7 1 ∷ handed 7 7 1 ∷ []))) (views_of network quietened) → ⊥
   unfolding computed_words keep unturned own_record targets_of
-  offline-turned s = true≢false (s.online 3 refl)
+  offline_turned s = true≢false (s.online 3 refl)
 
   -- a call to listen tells full: the view of the network does not hide that, and no controller was asked to start
-  pub full-by-listening : Answered network (views_of network (hears 1 (handed 6 7 2 ∷ []) ∷ [])) → ⊥
+  pub full_by_listening : Answered network (views_of network (hears 1 (handed 6 7 2 ∷ []) ∷ [])) → ⊥
   unfolding computed_words keep unturned own_record targets_of
-  full-by-listening s = false≢true (s refl 3 refl)
+  full_by_listening s = false≢true (s refl 3 refl)

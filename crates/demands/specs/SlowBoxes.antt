@@ -34,65 +34,65 @@ tells_no = ticks (handed 6 7 0 ∷ [])
 -- ---- from rest
 module _ where
   -- it asks a second time before it goes on: on the third tick it asks to start, and full is not told
-  pub asks-twice : FromRest network (asks ∷ says 0 ∷ asks_for 0 ∷ says 0 ∷ asks_for 0 ∷ wants 2 ∷ []) (lives network rest) → ⊥
+  pub asks_twice : FromRest network (asks ∷ says 0 ∷ asks_for 0 ∷ says 0 ∷ asks_for 0 ∷ wants 2 ∷ []) (lives network rest) → ⊥
   unfolding computed_figure
-  asks-twice from = let z : ◌≡◌ {A = ℕ} 0 2 = from refl (record { full = refl; granted = refl; calm = refl }) in omega arith
+  asks_twice from = let z : ◌≡◌ {A = ℕ} 0 2 = from refl (record { full = refl; granted = refl; calm = refl }) in omega arith
 
   -- so it tells full on the fourth
-  pub full-on-the-fourth :
+  pub full_on_the_fourth :
       OnThatTickFromRest network tells_full (answers ∷ asks ∷ says 0 ∷ asks_for 0 ∷ says 0 ∷ asks_for 0 ∷ wants 2 ∷ []) (lives network rest) → ⊥
   unfolding computed_figure
-  full-on-the-fourth just = true≢false (just refl (record { full = refl; granted = refl; calm = refl }) refl)
+  full_on_the_fourth just = true≢false (just refl (record { full = refl; granted = refl; calm = refl }) refl)
 
   -- it wakes up a tick late
-  pub idles-at-rest : FromRest network (asks ∷ says 0 ∷ asks_for 0 ∷ ticks [] ∷ wants 2 ∷ []) (lives network rest) → ⊥
+  pub idles_at_rest : FromRest network (asks ∷ says 0 ∷ asks_for 0 ∷ ticks [] ∷ wants 2 ∷ []) (lives network rest) → ⊥
   unfolding computed_figure
-  idles-at-rest from = let z : ◌≡◌ {A = ℕ} 0 2 = from refl (record { full = refl; granted = refl; calm = refl }) in omega arith
+  idles_at_rest from = let z : ◌≡◌ {A = ℕ} 0 2 = from refl (record { full = refl; granted = refl; calm = refl }) in omega arith
 
   -- it does not stop the controllers first, and is a tick early
-  pub stop-left-out : OnThatTickFromRest network tells_full (answers ∷ asks ∷ wants 2 ∷ []) (lives network rest) → ⊥
+  pub stop_left_out : OnThatTickFromRest network tells_full (answers ∷ asks ∷ wants 2 ∷ []) (lives network rest) → ⊥
   unfolding computed_figure
-  stop-left-out just = true≢false (just refl (record { full = refl; granted = refl; calm = refl }) refl)
+  stop_left_out just = true≢false (just refl (record { full = refl; granted = refl; calm = refl }) refl)
 
   -- where the first answer is not ok it asks once more, though an ok followed in time
-  pub not-ok-remembered : FromRest network
+  pub not_ok_remembered : FromRest network
       (asks ∷ says 0 ∷ asks_for 0 ∷ says 0 ∷ taken (Sight.an_answer 3 0 0) [] ∷ asks_for 0 ∷ wants 2 ∷ []) (lives network rest) → ⊥
   unfolding computed_figure
-  not-ok-remembered from = let z : ◌≡◌ {A = ℕ} 0 2 = from refl (record { full = refl; granted = refl; calm = refl }) in omega arith
+  not_ok_remembered from = let z : ◌≡◌ {A = ℕ} 0 2 = from refl (record { full = refl; granted = refl; calm = refl }) in omega arith
 
   -- one record too many: it asks the controller twice with one tick
-  pub one-too-many : RecordsFromRest network (tells_full ∷ answers ∷ asks ∷ says 0 ∷ ticks (handed 1 3 0 ∷ handed 1 3 0 ∷ []) ∷ wants 2 ∷ [])
+  pub one_too_many : RecordsFromRest network (tells_full ∷ answers ∷ asks ∷ says 0 ∷ ticks (handed 1 3 0 ∷ handed 1 3 0 ∷ []) ∷ wants 2 ∷ [])
       (lives network rest) → ⊥
   unfolding computed_figure
-  one-too-many records = let z : ◌≡◌ {A = ℕ} 6 5 = records refl (record { full = refl; granted = refl; calm = refl }) refl in omega arith
+  one_too_many records = let z : ◌≡◌ {A = ℕ} 6 5 = records refl (record { full = refl; granted = refl; calm = refl }) refl in omega arith
 
   -- one too few: the mode manager does not hear of full
-  pub one-too-few : RecordsFromRest network (ticks (handed 3 3 0 ∷ handed 6 7 2 ∷ []) ∷ climbed) (lives network rest) → ⊥
+  pub one_too_few : RecordsFromRest network (ticks (handed 3 3 0 ∷ handed 6 7 2 ∷ []) ∷ climbed) (lives network rest) → ⊥
   unfolding computed_figure
-  one-too-few records = let z : ◌≡◌ {A = ℕ} 4 5 = records refl (record { full = refl; granted = refl; calm = refl }) refl in omega arith
+  one_too_few records = let z : ◌≡◌ {A = ℕ} 4 5 = records refl (record { full = refl; granted = refl; calm = refl }) refl in omega arith
 
 -- ---- from the start
 module _ where
   -- it asks to stop a second time after the start: no is told a tick late, and so is full
-  pub rests-late : ToRest network tells_no (says 2 ∷ asks_for 2 ∷ says 0 ∷ asks_for 0 ∷ says 0 ∷ asks_for 0 ∷ wants 2 ∷ []) → ⊥
+  pub rests_late : ToRest network tells_no (says 2 ∷ asks_for 2 ∷ says 0 ∷ asks_for 0 ∷ says 0 ∷ asks_for 0 ∷ wants 2 ∷ []) → ⊥
   unfolding computed_figure
-  rests-late at = true≢false (at (record { full = refl; granted = refl; calm = refl }) refl)
+  rests_late at = true≢false (at (record { full = refl; granted = refl; calm = refl }) refl)
 
-  pub starts-late : FromStart network
+  pub starts_late : FromStart network
       (asks ∷ says 0 ∷ asks_for 0 ∷ tells_no ∷ says 2 ∷ asks_for 2 ∷ says 0 ∷ asks_for 0 ∷ says 0 ∷ asks_for 0 ∷ wants 2 ∷ []) → ⊥
   unfolding computed_figure
-  starts-late from = let z : ◌≡◌ {A = ℕ} 0 2 = from (record { full = refl; granted = refl; calm = refl }) in omega arith
+  starts_late from = let z : ◌≡◌ {A = ℕ} 0 2 = from (record { full = refl; granted = refl; calm = refl }) in omega arith
 
   -- it comes up from the start without having gone down
-  pub starts-hastily : OnThatTickFromStart network tells_full climbed → ⊥
+  pub starts_hastily : OnThatTickFromStart network tells_full climbed → ⊥
   unfolding computed_figure
-  starts-hastily just = true≢false (just (record { full = refl; granted = refl; calm = refl }) refl)
+  starts_hastily just = true≢false (just (record { full = refl; granted = refl; calm = refl }) refl)
 
   -- one record too many: no is told twice
-  pub no-told-twice : RecordsFromStart network
+  pub no_told_twice : RecordsFromStart network
       (tells_full ∷ (climbed ++ (ticks (handed 6 7 0 ∷ handed 6 7 0 ∷ []) ∷ says 2 ∷ asks_for 2 ∷ says 0 ∷ asks_for 0 ∷ []))) → ⊥
   unfolding computed_figure
-  no-told-twice records = let z : ◌≡◌ {A = ℕ} 9 8 = records (record { full = refl; granted = refl; calm = refl }) refl in omega arith
+  no_told_twice records = let z : ◌≡◌ {A = ℕ} 9 8 = records (record { full = refl; granted = refl; calm = refl }) refl in omega arith
 
 -- ---- from anywhere
 -- so many times
@@ -122,27 +122,27 @@ both_say mode = taken (Sight.an_answer 4 mode 1) [] ∷ says mode ∷ []
 
 module _ where
   -- it waits in step 13 for ever, once it has been full
-  pub waits-in-step-13 : NeverStuck fitted (checks 11) (lives fitted checking_again) → ⊥
+  pub waits_in_step_13 : NeverStuck fitted (checks 11) (lives fitted checking_again) → ⊥
   unfolding computed_times
-  waits-in-step-13 up = let z : ◌≡◌ {A = ℕ} 1 2 = up (record { full = refl; granted = refl; calm = refl }) (omega arith) in omega arith
+  waits_in_step_13 up = let z : ◌≡◌ {A = ℕ} 1 2 = up (record { full = refl; granted = refl; calm = refl }) (omega arith) in omega arith
 
   -- no sentence of demand 3 is false of it: it never says full, and never has to
-  pub waits-in-step-13-told : Told fitted (checks 11 ++ lives fitted checking_again)
+  pub waits_in_step_13_told : Told fitted (checks 11 ++ lives fitted checking_again)
   unfolding computed_times
-  waits-in-step-13-told = refl
+  waits_in_step_13_told = refl
 
-  pub waits-in-step-13-told-no : ToldNo fitted (checks 11 ++ lives fitted checking_again)
+  pub waits_in_step_13_told_no : ToldNo fitted (checks 11 ++ lives fitted checking_again)
   unfolding computed_times
-  waits-in-step-13-told-no = refl
+  waits_in_step_13_told_no = refl
 
-  pub waits-in-step-13-answered : Answered fitted (checks 11 ++ lives fitted checking_again)
+  pub waits_in_step_13_answered : Answered fitted (checks 11 ++ lives fitted checking_again)
   unfolding computed_times
-  waits-in-step-13-answered told = absurd (let z : ◌≡◌ {A = ℕ} 1 2 = told in omega arith)
+  waits_in_step_13_answered told = absurd (let z : ◌≡◌ {A = ℕ} 1 2 = told in omega arith)
 
   -- it asks for the check of step 14 twice, where sleep was refused: full is a tick late, on the twelfth
-  pub twelve-ticks : NeverStuck fitted (asks_both 1 ∷ both_say 0 ++ (asks_both 0 ∷ taken (reports 0) [] ∷ ticks (handed 2 5 0 ∷ []) ∷ tells_no
+  pub twelve_ticks : NeverStuck fitted (asks_both 1 ∷ both_say 0 ++ (asks_both 0 ∷ taken (reports 0) [] ∷ ticks (handed 2 5 0 ∷ []) ∷ tells_no
       ∷ taken checked [] ∷ ticks (handed 5 5 0 ∷ []) ∷ both_say 2 ++ (asks_both 2 ∷ taken (reports 1) [] ∷ ticks (handed 2 5 1 ∷ [])
       ∷ both_say 0 ++ (asks_both 0 ∷ taken cleared [] ∷ ticks (handed 4 5 0 ∷ []) ∷ checks 2))))
       (lives fitted (Sight.an_answer 3 2 0 ∷ a_tick ∷ reports 1 ∷ a_tick ∷ both 0 clearing)) → ⊥
   unfolding computed_times
-  twelve-ticks up = let z : ◌≡◌ {A = ℕ} 0 2 = up (record { full = refl; granted = refl; calm = refl }) (omega arith) in omega arith
+  twelve_ticks up = let z : ◌≡◌ {A = ℕ} 0 2 = up (record { full = refl; granted = refl; calm = refl }) (omega arith) in omega arith

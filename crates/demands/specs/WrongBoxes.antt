@@ -126,71 +126,71 @@ computed_words n h = told n h
 -- ---- exactly when full is told
 module _ where
   -- it stops the controllers while full is told, without 7 no: no was wanted at the last tick
-  pub stops-while-full : Told network (ticks (handed 1 3 0 ∷ []) ∷ wants 0 ∷ came_up) → ⊥
+  pub stops_while_full : Told network (ticks (handed 1 3 0 ∷ []) ∷ wants 0 ∷ came_up) → ⊥
   unfolding computed_words
-  stops-while-full = true≢false
+  stops_while_full = true≢false
 
   -- it tells full after the delay though silent is wanted
-  pub full-though-silent : Told network (tells_full ∷ ticks [] ∷ waits ∷ answers ∷ asks ∷ wants 1 ∷ bus_off ∷ came_up) → ⊥
+  pub full_though_silent : Told network (tells_full ∷ ticks [] ∷ waits ∷ answers ∷ asks ∷ wants 1 ∷ bus_off ∷ came_up) → ⊥
   unfolding computed_words
-  full-though-silent = true≢false
+  full_though_silent = true≢false
 
   -- it tells full a tick late, coming up: all run before the second tick
-  pub full-a-tick-late : Told network (ticks [] ∷ answers ∷ asks ∷ wants 2 ∷ []) → ⊥
+  pub full_a_tick_late : Told network (ticks [] ∷ answers ∷ asks ∷ wants 2 ∷ []) → ⊥
   unfolding computed_words
-  full-a-tick-late told = false≢true told
+  full_a_tick_late told = false≢true told
 
   -- it tells silent before it has ever told full: a shutdown while coming up
-  pub silent-before-full : ToldNo network (ticks (handed 7 7 0 ∷ handed 6 7 1 ∷ handed 1 3 0 ∷ []) ∷ wants 0 ∷ asks ∷ wants 2 ∷ []) → ⊥
+  pub silent_before_full : ToldNo network (ticks (handed 7 7 0 ∷ handed 6 7 1 ∷ handed 1 3 0 ∷ []) ∷ wants 0 ∷ asks ∷ wants 2 ∷ []) → ⊥
   unfolding computed_words
-  silent-before-full told = false≢true told
+  silent_before_full told = false≢true told
 
 -- ---- the first sentence
 module _ where
-  not-running : (h : OwnHistory) → told network h ≡ 2 → runs 3 (since (setback network) h) ≡ false → Answered network h → ⊥
+  not_running : (h : OwnHistory) → told network h ≡ 2 → runs 3 (since (setback network) h) ≡ false → Answered network h → ⊥
   unfolding any
-  not-running h t r a = false≢true (sym r ∙ a t 3 refl)
+  not_running h t r a = false≢true (sym r ∙ a t 3 refl)
 
   -- E14: it keeps the answers over a bus-off: a second one comes after the answer, and full is told without a new one
-  pub answers-kept : Answered network (tells_full ∷ ticks [] ∷ waits ∷ bus_off ∷ answers ∷ asks ∷ bus_off ∷ came_up) → ⊥
+  pub answers_kept : Answered network (tells_full ∷ ticks [] ∷ waits ∷ bus_off ∷ answers ∷ asks ∷ bus_off ∷ came_up) → ⊥
   unfolding computed_words
-  answers-kept = not-running (tells_full ∷ ticks [] ∷ waits ∷ bus_off ∷ answers ∷ asks ∷ bus_off ∷ came_up) refl refl
+  answers_kept = not_running (tells_full ∷ ticks [] ∷ waits ∷ bus_off ∷ answers ∷ asks ∷ bus_off ∷ came_up) refl refl
 
   -- it keeps the answers over a bus_off_lem in step 3, which hands out nothing
-  pub answers-kept-in-step-3 : Answered network (tells_full ∷ asks ∷ quiet_bus_off ∷ answers ∷ asks ∷ wants 2 ∷ []) → ⊥
+  pub answers_kept_in_step_3 : Answered network (tells_full ∷ asks ∷ quiet_bus_off ∷ answers ∷ asks ∷ wants 2 ∷ []) → ⊥
   unfolding computed_words
-  answers-kept-in-step-3 = not-running (tells_full ∷ asks ∷ quiet_bus_off ∷ answers ∷ asks ∷ wants 2 ∷ []) refl refl
+  answers_kept_in_step_3 = not_running (tells_full ∷ asks ∷ quiet_bus_off ∷ answers ∷ asks ∷ wants 2 ∷ []) refl refl
 
   -- it goes on without an answer: the controller was asked to start, and full is told on the next tick
-  pub full-without-an-answer : Answered network (tells_full ∷ asks ∷ wants 2 ∷ []) → ⊥
+  pub full_without_an_answer : Answered network (tells_full ∷ asks ∷ wants 2 ∷ []) → ⊥
   unfolding computed_words
-  full-without-an-answer = not-running (tells_full ∷ asks ∷ wants 2 ∷ []) refl refl
+  full_without_an_answer = not_running (tells_full ∷ asks ∷ wants 2 ∷ []) refl refl
 
   -- E16: it says full while the controllers are being stopped: 7 no, and no 6 silent
-  pub told-stays-full : Answered network (ticks (handed 7 7 0 ∷ handed 1 3 0 ∷ []) ∷ wants 0 ∷ came_up) → ⊥
+  pub told_stays_full : Answered network (ticks (handed 7 7 0 ∷ handed 1 3 0 ∷ []) ∷ wants 0 ∷ came_up) → ⊥
   unfolding computed_words
-  told-stays-full = not-running (ticks (handed 7 7 0 ∷ handed 1 3 0 ∷ []) ∷ wants 0 ∷ came_up) refl refl
+  told_stays_full = not_running (ticks (handed 7 7 0 ∷ handed 1 3 0 ∷ []) ∷ wants 0 ∷ came_up) refl refl
 
   -- it takes a bus_off_lem that it refuses with 22, coming up, for no bus-off: the answer from before it counts
-  pub refused-bus-off-forgotten : Answered network (tells_full ∷ refused_bus_off ∷ answers ∷ asks ∷ wants 2 ∷ []) → ⊥
+  pub refused_bus_off_forgotten : Answered network (tells_full ∷ refused_bus_off ∷ answers ∷ asks ∷ wants 2 ∷ []) → ⊥
   unfolding computed_words
-  refused-bus-off-forgotten = not-running (tells_full ∷ refused_bus_off ∷ answers ∷ asks ∷ wants 2 ∷ []) refl refl
+  refused_bus_off_forgotten = not_running (tells_full ∷ refused_bus_off ∷ answers ∷ asks ∷ wants 2 ∷ []) refl refl
 
   -- of two controllers, 3 and 4, it asks only the first, and takes its answer for both
-  pub second-not-asked :
+  pub second_not_asked :
       Answered (network_with 2 (3 ∷ 4 ∷ 0 ∷ 0 ∷ []) Transceiver.Absent false 1 Relation.Above) (tells_full ∷ answers ∷ asks ∷ wants 2 ∷ []) → ⊥
   unfolding computed_words
-  second-not-asked a = false≢true (a refl 4 refl)
+  second_not_asked a = false≢true (a refl 4 refl)
 
   -- it takes a stall, and full stays told
-  pub told-stays-full-over-a-stall : Answered network (taken a_stall [] ∷ came_up) → ⊥
+  pub told_stays_full_over_a_stall : Answered network (taken a_stall [] ∷ came_up) → ⊥
   unfolding computed_words
-  told-stays-full-over-a-stall = not-running (taken a_stall [] ∷ came_up) refl refl
+  told_stays_full_over_a_stall = not_running (taken a_stall [] ∷ came_up) refl refl
 
   -- after a stall it stops the controllers, and tells full without starting them: their answers from before the stall count
-  pub answers-kept-over-a-stall : Answered network (tells_full ∷ (stops ++ (stall ∷ came_up))) → ⊥
+  pub answers_kept_over_a_stall : Answered network (tells_full ∷ (stops ++ (stall ∷ came_up))) → ⊥
   unfolding computed_words
-  answers-kept-over-a-stall = not-running (tells_full ∷ (stops ++ (stall ∷ came_up))) refl refl
+  answers_kept_over_a_stall = not_running (tells_full ∷ (stops ++ (stall ∷ came_up))) refl refl
 
 -- an entry of the manager's history: a call, the number of its answer, the records handed out
 abbrev pub entry : Call → ℕ → List Record → Entry
@@ -203,82 +203,82 @@ came_up_by_calls =
 
 module _ where
   -- it accepts a bus_off_lem that is lent 8 bytes, hands out nothing, and does not restart the controllers: full stays told
-  pub short-bus-off-forgotten : Answered network (views_of network (entry (Call.bus_off 3 8) 0 [] ∷ came_up_by_calls)) → ⊥
+  pub short_bus_off_forgotten : Answered network (views_of network (entry (Call.bus_off 3 8) 0 [] ∷ came_up_by_calls)) → ⊥
   unfolding computed_words keep unturned own_record targets_of
-  short-bus-off-forgotten a = false≢true (a refl 3 refl)
+  short_bus_off_forgotten a = false≢true (a refl 3 refl)
 
   -- it refuses a bus_off_lem with 20 though 9 bytes are lent: full stays told
-  pub room-denied : Answered network (views_of network (entry (Call.bus_off 3 9) 0x20 [] ∷ came_up_by_calls)) → ⊥
+  pub room_denied : Answered network (views_of network (entry (Call.bus_off 3 9) 0x20 [] ∷ came_up_by_calls)) → ⊥
   unfolding computed_words keep unturned own_record targets_of
-  room-denied a = false≢true (a refl 3 refl)
+  room_denied a = false≢true (a refl 3 refl)
 
 -- ---- the second sentence
 module _ where
   -- it tells full on the tick before: the third after the bus_off_lem, where the delay of 2 and two are four
-  pub full-on-the-tick-before : Delayed network (tells_full ∷ waits ∷ answers ∷ asks ∷ []) bus_off came_up → ⊥
+  pub full_on_the_tick_before : Delayed network (tells_full ∷ waits ∷ answers ∷ asks ∷ []) bus_off came_up → ⊥
   unfolding computed_words
-  full-on-the-tick-before d = let z : 4 ≤ 3 = d refl refl refl refl in omega arith
+  full_on_the_tick_before d = let z : 4 ≤ 3 = d refl refl refl refl in omega arith
 
   -- E17: it takes leaving for silent as the all-clear: the second bus_off_lem since passed, which exceeds the threshold, brings the short delay
-  pub silent-clears : Delayed network (tells_full ∷ ticks [] ∷ waits ∷ answers ∷ asks ∷ []) bus_off
+  pub silent_clears : Delayed network (tells_full ∷ ticks [] ∷ waits ∷ answers ∷ asks ∷ []) bus_off
       (tells_full ∷ wants 2 ∷ tells_silent ∷ wants 1 ∷ tells_full ∷ ticks [] ∷ waits ∷ answers ∷ asks ∷ bus_off ∷ came_up) → ⊥
   unfolding computed_words
-  silent-clears d = let z : 7 ≤ 4 = d refl refl refl refl in omega arith
+  silent_clears d = let z : 7 ≤ 4 = d refl refl refl refl in omega arith
 
   -- it leaves the records of a bus_off_lem out, 7 bus_off_lem too, and the delay with them: full on the second tick
-  pub no-delay-without-records : Delayed network (tells_full ∷ answers ∷ asks ∷ []) quiet_bus_off came_up → ⊥
+  pub no_delay_without_records : Delayed network (tells_full ∷ answers ∷ asks ∷ []) quiet_bus_off came_up → ⊥
   unfolding computed_words
-  no-delay-without-records d = let z : 4 ≤ 2 = d refl refl refl refl in omega arith
+  no_delay_without_records d = let z : 4 ≤ 2 = d refl refl refl refl in omega arith
 
   -- a second bus_off_lem, which comes in step 7 and hands out nothing, cancels the delay
-  pub delay-cancelled : Delayed network (tells_full ∷ answers ∷ asks ∷ []) quiet_bus_off (waits ∷ answers ∷ asks ∷ bus_off ∷ came_up) → ⊥
+  pub delay_cancelled : Delayed network (tells_full ∷ answers ∷ asks ∷ []) quiet_bus_off (waits ∷ answers ∷ asks ∷ bus_off ∷ came_up) → ⊥
   unfolding computed_words
-  delay-cancelled d = let z : 7 ≤ 2 = d refl refl refl refl in omega arith
+  delay_cancelled d = let z : 7 ≤ 2 = d refl refl refl refl in omega arith
 
   -- a bus_off_lem in step 7, when the controller runs again, is taken for the same fault: the short delay, where two exceed the threshold
-  pub fault-in-the-wait-not-counted : Delayed network (tells_full ∷ ticks [] ∷ waits ∷ answers ∷ asks ∷ []) bus_off
+  pub fault_in_the_wait_not_counted : Delayed network (tells_full ∷ ticks [] ∷ waits ∷ answers ∷ asks ∷ []) bus_off
       (waits ∷ answers ∷ asks ∷ bus_off ∷ came_up) → ⊥
   unfolding computed_words
-  fault-in-the-wait-not-counted d = let z : 7 ≤ 4 = d refl refl refl refl in omega arith
+  fault_in_the_wait_not_counted d = let z : 7 ≤ 4 = d refl refl refl refl in omega arith
 
   -- S27: with field 07 it takes the older relation: one bus_off_lem is as many as the threshold, and full is told on the fourth tick
-  pub short-at-the-threshold : Delayed (newer 1) (tells_full ∷ ticks [] ∷ waits ∷ answers ∷ asks ∷ []) bus_off came_up → ⊥
+  pub short_at_the_threshold : Delayed (newer 1) (tells_full ∷ ticks [] ∷ waits ∷ answers ∷ asks ∷ []) bus_off came_up → ⊥
   unfolding computed_words
-  short-at-the-threshold d = let z : 7 ≤ 4 = d refl refl refl refl in omega arith
+  short_at_the_threshold d = let z : 7 ≤ 4 = d refl refl refl refl in omega arith
 
   -- that it was restarting is remembered over a shutdown: a bus_off_lem when it is up again is taken for the same fault
-  pub restarting-over-a-shutdown : Delayed network (tells_full ∷ ticks [] ∷ waits ∷ answers ∷ asks ∷ []) bus_off
+  pub restarting_over_a_shutdown : Delayed network (tells_full ∷ ticks [] ∷ waits ∷ answers ∷ asks ∷ []) bus_off
       (came_up ++ (ticks (handed 7 7 0 ∷ handed 1 3 0 ∷ []) ∷ wants 0 ∷ bus_off ∷ came_up)) → ⊥
   unfolding computed_words
-  restarting-over-a-shutdown d = let z : 7 ≤ 4 = d refl refl refl refl in omega arith
+  restarting_over_a_shutdown d = let z : 7 ≤ 4 = d refl refl refl refl in omega arith
 
   -- a second bus_off_lem in step 6, after the request to start, does not begin the recovery anew: full on the third tick after it
-  pub recovery-not-begun-anew : Delayed network (tells_full ∷ waits ∷ answers ∷ asks ∷ []) bus_off (asks ∷ bus_off ∷ came_up) → ⊥
+  pub recovery_not_begun_anew : Delayed network (tells_full ∷ waits ∷ answers ∷ asks ∷ []) bus_off (asks ∷ bus_off ∷ came_up) → ⊥
   unfolding computed_words
-  recovery-not-begun-anew d = let z : 4 ≤ 3 = d refl refl refl refl in omega arith
+  recovery_not_begun_anew d = let z : 4 ≤ 3 = d refl refl refl refl in omega arith
 
   -- where the answer is late it takes the delay from the bus_off_lem on: all run before the fourth tick, and full is told on the fifth
-  pub delay-from-the-bus-off : LateAnswers network (tells_full ∷ waits ∷ answers ∷ asks ∷ asks ∷ asks ∷ []) bus_off came_up → ⊥
+  pub delay_from_the_bus_off : LateAnswers network (tells_full ∷ waits ∷ answers ∷ asks ∷ asks ∷ asks ∷ []) bus_off came_up → ⊥
   unfolding computed_words
-  delay-from-the-bus-off late = true≢false (late refl refl refl refl).0
+  delay_from_the_bus_off late = true≢false (late refl refl refl refl).0
 
   -- it idles where the answer is late: all run before the third tick, and on the fifth full is not told
-  pub idles-after-a-late-answer : LateAnswers network (ticks [] ∷ ticks [] ∷ waits ∷ answers ∷ asks ∷ asks ∷ []) bus_off came_up → ⊥
+  pub idles_after_a_late_answer : LateAnswers network (ticks [] ∷ ticks [] ∷ waits ∷ answers ∷ asks ∷ asks ∷ []) bus_off came_up → ⊥
   unfolding computed_words
-  idles-after-a-late-answer late = false≢true (late refl refl refl refl).0
+  idles_after_a_late_answer late = false≢true (late refl refl refl refl).0
 
 -- ---- one fault is counted once
 module _ where
   -- TX offline goes out with the bus_off_lem itself, so that the second report is taken for a second fault
-  pub offline-with-the-bus-off :
+  pub offline_with_the_bus_off :
       CountedOnce network (bus_off ∷ []) (taken a_bus_off (handed 8 7 1 ∷ handed 6 7 1 ∷ handed 7 7 3 ∷ handed 3 3 1 ∷ [])) came_up → ⊥
   unfolding computed_words
-  offline-with-the-bus-off o = let z : ◌≡◌ {A = ℕ} 2 1 = o refl refl refl in omega arith
+  offline_with_the_bus_off o = let z : ◌≡◌ {A = ℕ} 2 1 = o refl refl refl in omega arith
 
   -- passed is said while the controllers are started again, so that the fault is not counted at all
-  pub passed-while-restarting : CountedOnce network (ticks (handed 8 7 0 ∷ []) ∷ asks ∷ []) bus_off came_up → ⊥
+  pub passed_while_restarting : CountedOnce network (ticks (handed 8 7 0 ∷ []) ∷ asks ∷ []) bus_off came_up → ⊥
   unfolding computed_words
-  passed-while-restarting o = let z : ◌≡◌ {A = ℕ} 0 1 = o refl refl refl in omega arith
+  passed_while_restarting o = let z : ◌≡◌ {A = ℕ} 0 1 = o refl refl refl in omega arith
 
 -- ---- the third sentence
 -- three ticks after a bus_off_lem, and the fourth
@@ -290,48 +290,48 @@ Four fourth = fourth ∷ three
 
 module _ where
   -- E15: the long delay begins where the count equals the threshold, or it idles after the first tick: on the fourth tick full is not told
-  pub not-told : SaidFrom network (Four (ticks [])) bus_off came_up → ⊥
+  pub not_told : SaidFrom network (Four (ticks [])) bus_off came_up → ⊥
   unfolding computed_words
-  not-told said =
+  not_told said =
       let z : ◌≡◌ {A = ℕ} 1 2 = said refl (record { full = refl; granted = refl; calm = refl }) in omega arith
 
   -- S27: with field 07 it is long below the threshold too: one bus_off_lem is fewer than 2, and on the fourth tick full is not told
-  pub long-below-the-threshold : SaidFrom (newer 2) (Four (ticks [])) bus_off came_up → ⊥
+  pub long_below_the_threshold : SaidFrom (newer 2) (Four (ticks [])) bus_off came_up → ⊥
   unfolding computed_words
-  long-below-the-threshold said =
+  long_below_the_threshold said =
       let z : ◌≡◌ {A = ℕ} 1 2 = said refl (record { full = refl; granted = refl; calm = refl }) in omega arith
 
   -- S27: with field 07 it idles at the threshold: on the seventh tick full is not told
-  pub idles-at-the-threshold : SaidFrom (newer 1) (ticks [] ∷ ticks [] ∷ ticks [] ∷ Four (ticks [])) bus_off came_up → ⊥
+  pub idles_at_the_threshold : SaidFrom (newer 1) (ticks [] ∷ ticks [] ∷ ticks [] ∷ Four (ticks [])) bus_off came_up → ⊥
   unfolding computed_words
-  idles-at-the-threshold said =
+  idles_at_the_threshold said =
       let z : ◌≡◌ {A = ℕ} 1 2 = said refl (record { full = refl; granted = refl; calm = refl }) in omega arith
 
   -- it counts every bus-off: a second one in step 6 makes two, and on the fourth tick after it full is not told
-  pub second-report-counted : SaidFrom network (Four (ticks [])) bus_off (bus_off ∷ came_up) → ⊥
+  pub second_report_counted : SaidFrom network (Four (ticks [])) bus_off (bus_off ∷ came_up) → ⊥
   unfolding computed_words
-  second-report-counted said =
+  second_report_counted said =
       let z : ◌≡◌ {A = ℕ} 1 2 = said refl (record { full = refl; granted = refl; calm = refl }) in omega arith
 
   -- the same by what the fourth tick hands out
-  pub not-on-that-tick : OnJustThatTick network (ticks []) three bus_off came_up → ⊥
+  pub not_on_that_tick : OnJustThatTick network (ticks []) three bus_off came_up → ⊥
   unfolding computed_words
-  not-on-that-tick just = false≢true (just refl (record { full = refl; granted = refl; calm = refl }) refl)
+  not_on_that_tick just = false≢true (just refl (record { full = refl; granted = refl; calm = refl }) refl)
 
   -- it says full once more on the fifth tick
-  pub full-said-twice : OnJustThatTick network tells_full (Four tells_full) bus_off came_up → ⊥
+  pub full_said_twice : OnJustThatTick network tells_full (Four tells_full) bus_off came_up → ⊥
   unfolding computed_words
-  full-said-twice just = true≢false (just refl (record { full = refl; granted = refl; calm = refl }) refl)
+  full_said_twice just = true≢false (just refl (record { full = refl; granted = refl; calm = refl }) refl)
 
   -- it counts a stall as a bus-off: after the one bus_off_lem that came, full is not told on the fourth tick
-  pub stall-counted : SaidFrom network (Four (ticks [])) bus_off (tells_full ∷ answers ∷ asks ∷ (stops ++ (stall ∷ came_up))) → ⊥
+  pub stall_counted : SaidFrom network (Four (ticks [])) bus_off (tells_full ∷ answers ∷ asks ∷ (stops ++ (stall ∷ came_up))) → ⊥
   unfolding computed_words
-  stall-counted said =
+  stall_counted said =
       let z : ◌≡◌ {A = ℕ} 1 2 = said refl (record { full = refl; granted = refl; calm = refl }) in omega arith
 
   -- it refuses a tick that has the bytes it needs
-  pub tick-refused : TickTaken 9 network (entry (tick 9) 0x20 []) → ⊥
-  tick-refused taken = false≢true (taken 9 refl (omega arith))
+  pub tick_refused : TickTaken 9 network (entry (tick 9) 0x20 []) → ⊥
+  tick_refused taken = false≢true (taken 9 refl (omega arith))
 
 -- ---- after a stall
 -- two ticks: asked to stop and stopped, asked to start and running
@@ -340,21 +340,21 @@ reset = answers ∷ asks ∷ stops
 
 module _ where
   -- it passes over step 15: asked to start at once, full on the second tick
-  pub stop-passed-over : LateAfterStall network (tells_full ∷ answers ∷ asks ∷ []) stall came_up → ⊥
+  pub stop_passed_over : LateAfterStall network (tells_full ∷ answers ∷ asks ∷ []) stall came_up → ⊥
   unfolding computed_words
-  stop-passed-over late = true≢false (late refl refl refl refl).1
+  stop_passed_over late = true≢false (late refl refl refl refl).1
 
   -- it tells full after the reset though silent is wanted
-  pub full-after-a-stall-though-silent : Told network (tells_full ∷ wants 1 ∷ (reset ++ (stall ∷ came_up))) → ⊥
+  pub full_after_a_stall_though_silent : Told network (tells_full ∷ wants 1 ∷ (reset ++ (stall ∷ came_up))) → ⊥
   unfolding computed_words
-  full-after-a-stall-though-silent = true≢false
+  full_after_a_stall_though_silent = true≢false
 
   -- it waits for a delay, as after a bus_off_lem, or idles: on the third tick full is not told
-  pub not-told-on-the-third : SaidFromTheThird network (waits ∷ reset) stall came_up → ⊥
+  pub not_told_on_the_third : SaidFromTheThird network (waits ∷ reset) stall came_up → ⊥
   unfolding computed_words
-  not-told-on-the-third said = let z : ◌≡◌ {A = ℕ} 1 2 = said refl (record { full = refl; granted = refl; calm = refl }) in omega arith
+  not_told_on_the_third said = let z : ◌≡◌ {A = ℕ} 1 2 = said refl (record { full = refl; granted = refl; calm = refl }) in omega arith
 
   -- the same by what the third tick hands out
-  pub not-on-the-third-tick : OnTheThirdTick network waits reset stall came_up → ⊥
+  pub not_on_the_third_tick : OnTheThirdTick network waits reset stall came_up → ⊥
   unfolding computed_words
-  not-on-the-third-tick just = false≢true (just refl (record { full = refl; granted = refl; calm = refl }) refl)
+  not_on_the_third_tick just = false≢true (just refl (record { full = refl; granted = refl; calm = refl }) refl)

@@ -1,4 +1,6 @@
 // The fields of a settings sheet: what each says. What it does to the settings is defined here; the code of that is in `grammar`.
+#![tactic(auto)]
+
 mod values;
 
 ghost use Rattle.std.specs.Prelude.{◌≡◌};
@@ -9,7 +11,7 @@ use settings::Network;
 pub use values::{entry_at, next_entry};
 
 // Why a sheet is refused.
-#[derive(Drop)]
+#[derive(Clone, Copy)]
 pub enum Fault {
     Cut,
     UnknownTag,
@@ -42,7 +44,7 @@ impl Fault {
 }
 
 // What a field of a sheet says.
-#[derive(Drop)]
+#[derive(Clone, Copy)]
 pub enum Entry {
     // There is no field: the bytes are at their end.
     End,
@@ -96,7 +98,7 @@ impl Entry {
 }
 
 // How the head of a field, its tag and its length, lays the field out.
-#[derive(Drop)]
+#[derive(Clone, Copy)]
 pub enum Layout {
     Unknown,
     Wrong,
@@ -105,14 +107,14 @@ pub enum Layout {
 }
 
 // An entry, and the place after its field.
-#[derive(Drop)]
+#[derive(Clone, Copy)]
 pub struct FoundEntry {
     pub entry: Entry,
     pub next: usize,
 }
 
 // How far an unfinished network has come, by its last field: 01, 02, 03, 04 or 05.
-#[derive(Drop)]
+#[derive(Clone, Copy)]
 pub enum Progress {
     Named,
     Listed,
@@ -122,7 +124,7 @@ pub enum Progress {
 }
 
 // What an entry does where a network may begin.
-#[derive(Drop)]
+#[derive(Clone, Copy)]
 pub enum Opening {
     Closes,
     Begins(u8),
@@ -132,7 +134,7 @@ pub enum Opening {
 }
 
 // What an entry does to an unfinished network.
-#[derive(Drop)]
+#[derive(Clone, Copy)]
 pub enum Filling {
     More(Progress),
     Whole,
@@ -140,7 +142,7 @@ pub enum Filling {
 }
 
 // That, and the network with what the entry says.
-#[derive(Drop)]
+#[derive(Clone, Copy)]
 pub struct Filled {
     pub filling: Filling,
     pub network: Network,

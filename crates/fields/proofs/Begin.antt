@@ -41,7 +41,7 @@ use Rattle.fields.specs.contracts.Reader as T
 use Rattle.fields.proofs.Reader.TheLaws as T'
 use Rattle.fields.specs.contracts.Reader.new as new
 use Rattle.fields.proofs.Reader.new.Symbol.{name as #new}
-use Rattle.fields.proofs.Through.{Typed, this as next, this-clauses as next-clauses}
+use Rattle.fields.proofs.Through.{Typed, this as next, this_clauses as next-clauses}
 
 -- the struct's type, over the signature's lifetimes
 abbrev B : Lfts 1 → RattleType
@@ -70,8 +70,8 @@ module _ (R : RattleType) (Found : List ℕ → ℕ → R.Denot → Type 0) wher
         kept = (yes, tt);
       }
 
-  abbrev this-clauses : {M : Type 1} (𝓤 : Ura M) → Clauses 𝓤 this
-  this-clauses 𝓤 κs a = record { ghost = Unit {0}; requires = λ g. emp 𝓤; ensures = λ g r e. fact 𝓤 (Found a.0.now 0 r) }
+  abbrev this_clauses : {M : Type 1} (𝓤 : Ura M) → Clauses 𝓤 this
+  this_clauses 𝓤 κs a = record { ghost = Unit {0}; requires = λ g. emp 𝓤; ensures = λ g r e. fact 𝓤 (Found a.0.now 0 r) }
 
   abbrev stayed : Stays this.signature.params this.kept
   stayed = (stay_none_slice (0 ∷ []) tt (plain (λ _. u8)) yes, tt)
@@ -100,43 +100,43 @@ module _ (R : RattleType) (Found : List ℕ → ℕ → R.Denot → Type 0) wher
     αᵉ = record { mir = erased; lft = κ }
 
     abbrev Post : Val → SProp 𝓤
-    Post = (walk_of 𝓛 this stayed (this-clauses 𝓤)).post (((κ, tt), (q, tt), tt, (s, tt), (v ∷ [], tt)), tt)
+    Post = (walk_of 𝓛 this stayed (this_clauses 𝓤)).post (((κ, tt), (q, tt), tt, (s, tt), (v ∷ [], tt)), tt)
 
     abbrev Own : Fml
     Own = (ShrSlice (named 0) κ u8).own_val s (v ∷ [])
 
     -- the call of `new`: what it is passed, what it asks, and what is known of its result
-    abbrev to-new : (New 𝓛 mem run).Ghost
-    to-new = (((κ, tt), (q, tt), tt, (s, tt), (v ∷ [], tt)), tt)
+    abbrev to_new : (New 𝓛 mem run).Ghost
+    to_new = (((κ, tt), (q, tt), tt, (s, tt), (v ∷ [], tt)), tt)
 
-    goes-new : ent 𝓤 (on_entry 𝓛 this.signature (κ, tt) (q, tt) (s, tt) (v ∷ [], tt)) (sep 𝓤 ((New 𝓛 mem run).pre to-new) (sem 𝓛 Own))
-    goes-new =
+    goes_new : ent 𝓤 (on_entry 𝓛 this.signature (κ, tt) (q, tt) (s, tt) (v ∷ [], tt)) (sep 𝓤 ((New 𝓛 mem run).pre to_new) (sem 𝓛 Own))
+    goes_new =
         qed 𝓛 ((‵ (flft κ q) ⊛ ‵ ftrue) ∷ ‵ (owns (ShrSlice (named 0) κ u8 ∷ []) (s, tt) (v ∷ [], tt)) ∷ []) ∵
         move ! (1 ∷ []) $ fsplit ! $ use1 𝓛 (‵ Own ⊛ ‵ Own) ((shr_slice_copy 𝓛 (named 0) κ u8).twice s (v ∷ [])) $ split ! $
-        move ! (0 ∷ 2 ∷ []) $ fjoin ! $ move ! (2 ∷ 0 ∷ []) $ use2 𝓛 (raw ((New 𝓛 mem run).pre to-new)) (qed 𝓛 ((‵ (flft κ q) ⊛ ‵ ftrue) ∷ ‵
+        move ! (0 ∷ 2 ∷ []) $ fjoin ! $ move ! (2 ∷ 0 ∷ []) $ use2 𝓛 (raw ((New 𝓛 mem run).pre to_new)) (qed 𝓛 ((‵ (flft κ q) ⊛ ‵ ftrue) ∷ ‵
         (owns (ShrSlice (named 0) κ u8 ∷ []) (s, tt) (v ∷ [], tt)) ∷ []) ∵ join ! $ frame ! $ done !) $ frame ! $ done !
 
-    new-said : (r : Reader) →
+    new_said : (r : Reader) →
         ent 𝓤 (ensured 𝓛 new.ended (new.clauses 𝓛 mem run) (κ, tt) (s, tt) tt r) (fact 𝓤 ((r.bytes ≡ s) × (r.place ≡ 0)))
-    new-said r = ex_e 𝓤 _ (λ ws. snd∗ 𝓤 (sem 𝓛 (lasts new.ended (κ, tt) (s, tt) ws)) (fact 𝓤 ((r.bytes ≡ s) × (r.place ≡ 0))))
+    new_said r = ex_e 𝓤 _ (λ ws. snd∗ 𝓤 (sem 𝓛 (lasts new.ended (κ, tt) (s, tt) ws)) (fact 𝓤 ((r.bytes ≡ s) × (r.place ≡ 0))))
 
     -- the call of `next`, at the struct r with the machine value u
-    abbrev to-next : Reader → Val → (Next 𝓛 mem run).Ghost
-    to-next r u = (((κ, tt), (q, tt), tt, (r, tt), (u ∷ [], tt)), tt)
+    abbrev to_next : Reader → Val → (Next 𝓛 mem run).Ghost
+    to_next r u = (((κ, tt), (q, tt), tt, (r, tt), (u ∷ [], tt)), tt)
 
-    goes-next : (r : Reader) (u : Val) →
-        ent 𝓤 (⋆ 𝓛 (‵ ((B (κ, tt)).own r (u ∷ [])) ∷ (‵ (flft κ q) ⊛ ‵ ftrue) ∷ [])) ((Next 𝓛 mem run).pre (to-next r u))
-    goes-next r u = qed 𝓛 (‵ ((B (κ, tt)).own r (u ∷ [])) ∷ (‵ (flft κ q) ⊛ ‵ ftrue) ∷ []) ∵ nothing ! $
+    goes_next : (r : Reader) (u : Val) →
+        ent 𝓤 (⋆ 𝓛 (‵ ((B (κ, tt)).own r (u ∷ [])) ∷ (‵ (flft κ q) ⊛ ‵ ftrue) ∷ [])) ((Next 𝓛 mem run).pre (to_next r u))
+    goes_next r u = qed 𝓛 (‵ ((B (κ, tt)).own r (u ∷ [])) ∷ (‵ (flft κ q) ⊛ ‵ ftrue) ∷ []) ∵ nothing ! $
         move ! (1 ∷ 0 ∷ []) $ fjoin ! $ move ! (1 ∷ 0 ∷ []) $ join ! $ frame ! $ done !
 
-    next-said : (r : Reader) (t : R.Denot) →
+    next_said : (r : Reader) (t : R.Denot) →
         ent 𝓤 (ensured 𝓛 (next R Found) (next-clauses R Found 𝓤) (κ, tt) (r, tt) tt t) (fact 𝓤 (Found r.bytes.now r.place t))
-    next-said r t = ex_e 𝓤 _ (λ ws. snd∗ 𝓤 (sem 𝓛 (lasts (next R Found) (κ, tt) (r, tt) ws)) (fact 𝓤 (Found r.bytes.now r.place t)))
+    next_said r t = ex_e 𝓤 _ (λ ws. snd∗ 𝓤 (sem 𝓛 (lasts (next R Found) (κ, tt) (r, tt) ws)) (fact 𝓤 (Found r.bytes.now r.place t)))
 
     exits : (t : R.Denot) (u : Val) → Said t → ent 𝓤 (⋆ 𝓛 (‵ (R.own t (u ∷ [])) ∷ (‵ (flft κ q) ⊛ ‵ ftrue) ∷ ‵ Own ∷ [])) (Post u)
     exits t u e =
         qed 𝓛 (‵ (R.own t (u ∷ [])) ∷ (‵ (flft κ q) ⊛ ‵ ftrue) ∷ ‵ Own ∷ []) ∵
-        suffices ! _ (ends_at 𝓛 this stayed (this-clauses 𝓤) (((κ, tt), (q, tt), tt, (s, tt), (v ∷ [], tt)), tt) u t (tt, tt) (tt, tt)) $
+        suffices ! _ (ends_at 𝓛 this stayed (this_clauses 𝓤) (((κ, tt), (q, tt), tt, (s, tt), (v ∷ [], tt)), tt) u t (tt, tt) (tt, tt)) $
         says ! e $
         move ! (1 ∷ []) $ frame ! $ nothing ! $ move ! (2 ∷ 0 ∷ []) $ fjoin ! $ frame ! $ done !
 
@@ -148,20 +148,20 @@ module _ (R : RattleType) (Found : List ℕ → ℕ → R.Denot → Type 0) wher
           qed 𝓛 (raw (on_entry 𝓛 this.signature (κ, tt) (q, tt) (s, tt) (v ∷ [], tt)) ∷ []) ∵ enter ! C Λ (function τ name) (v ∷ []) _ $
           alloc1 ! (λ l₀. alloc1 ! (λ l₁. alloc1 ! (λ l₂. alloc0 ! $
           params1 ! $ pass1 ! (init ! 2 refl ((shr_slice_Lawful 𝓛 (named 0) κ u8).typed s (v ∷ []) p).0) $ pass0 ! $
-          move ! (6 ∷ []) $ use1 𝓛 (raw ((New 𝓛 mem run).pre to-new) ⊛ ‵ Own) goes-new $ split ! $
-          calls_at ! fm (New 𝓛 mem run) known-new to-new (and_then ! (load ! (from ! (stop !)) (look ! 4 refl)) (no_more !)) (λ u.
+          move ! (6 ∷ []) $ use1 𝓛 (raw ((New 𝓛 mem run).pre to_new) ⊛ ‵ Own) goes_new $ split ! $
+          calls_at ! fm (New 𝓛 mem run) known-new to_new (and_then ! (load ! (from ! (stop !)) (look ! 4 refl)) (no_more !)) (λ u.
           use1 𝓛 (later (some (λ (r : Reader). ((‵ (flft κ q) ⊛ ‵ ftrue) ⊛ ‵ ((B (κ, tt)).own r (u ∷ []))) ⊛ raw
           (ensured 𝓛 new.ended (new.clauses 𝓛 mem run) (κ, tt) (s, tt) tt r)))) (id⊢ 𝓤 _) $ await ! tt $ pick ! (λ r.
-          split ! $ move ! (1 ∷ []) $ use1 𝓛 (raw (fact 𝓤 ((r.bytes ≡ s) × (r.place ≡ 0)))) (new-said r) $
+          split ! $ move ! (1 ∷ []) $ use1 𝓛 (raw (fact 𝓤 ((r.bytes ≡ s) × (r.place ≡ 0)))) (new_said r) $
           heard ! ((r.bytes ≡ s) × (r.place ≡ 0)) (λ e. split ! $ move ! (1 ∷ []) $
           -- [what the struct owns; the token; what s owns; room for _2; …; _1; …; room for _0; …]
           peeks ! (B (κ, tt)) (Is (B (κ, tt))) (shows 𝓛 (B (κ, tt))) r (u ∷ []) (λ is.
           land ! (from ! (stop !)) (init ! 3 refl ((LL.lawful (T.the_type αᵉ) (T'.the_laws αᵉ) 𝓛).typed r _ is).0) $
-          use2 𝓛 (raw ((Next 𝓛 mem run).pre (to-next r u))) (goes-next r u) $
-          calls_at ! fm (Next 𝓛 mem run) known_next (to-next r u) (and_then ! (load ! (from ! (stop !)) (look ! 2 refl)) (no_more !)) (λ u'.
+          use2 𝓛 (raw ((Next 𝓛 mem run).pre (to_next r u))) (goes_next r u) $
+          calls_at ! fm (Next 𝓛 mem run) known_next (to_next r u) (and_then ! (load ! (from ! (stop !)) (look ! 2 refl)) (no_more !)) (λ u'.
           use1 𝓛 (later (some (λ (t : R.Denot). ((‵ (flft κ q) ⊛ ‵ ftrue) ⊛ ‵ (R.own t (u' ∷ []))) ⊛ raw
           (ensured 𝓛 (next R Found) (next-clauses R Found 𝓤) (κ, tt) (r, tt) tt t)))) (id⊢ 𝓤 _) $ await ! tt $ pick ! (λ t.
-          split ! $ move ! (1 ∷ []) $ use1 𝓛 (raw (fact 𝓤 (Found r.bytes.now r.place t))) (next-said r t) $
+          split ! $ move ! (1 ∷ []) $ use1 𝓛 (raw (fact 𝓤 (Found r.bytes.now r.place t))) (next_said r t) $
           heard ! (Found r.bytes.now r.place t) (λ e'. split ! $ move ! (1 ∷ []) $
           -- [the result; the token; what s owns; _2; …; _1; …; room for _0; …]
           peeks ! R (Is R) (shows 𝓛 R) t (u' ∷ []) (λ is'.
@@ -174,16 +174,16 @@ module _ (R : RattleType) (Found : List ℕ → ℕ → R.Denot → Type 0) wher
     open 𝓛 use {H}
 
     walks : (τ : Ty) (name : Name) → Typed R τ → (C : Calls 𝓤 H) (Λ : Loops 𝓤 H) → FmC 𝓤 H 𝓛.laws C → Triple 𝓤 (C #new) (New 𝓛 mem run) →
-        Triple 𝓤 (C name) (Next 𝓛 mem run) → Walks 𝓛 this stayed (WpFn 𝓤 H C Λ (function τ name)) (this-clauses 𝓤)
+        Triple 𝓤 (C name) (Next 𝓛 mem run) → Walks 𝓛 this stayed (WpFn 𝓤 H C Λ (function τ name)) (this_clauses 𝓤)
     walks τ name typed C Λ fm known-new known_next =
-        walked 𝓛 this stayed (this-clauses 𝓤)
+        walked 𝓛 this stayed (this_clauses 𝓤)
         (WpFn 𝓤 H C Λ (function τ name)) (λ κs. (shr_slice_vals, tt)) (λ κs. (shr_slice_Tells (named 0) κs.0 u8, tt)) (λ κs qs bounds a g are. via 𝓤 _
         (fst∗ 𝓤 _ (emp 𝓤)) (walk 𝓛 mem run κs.0 qs.0 a.0 τ name typed C Λ fm known-new known_next are.0))
 
   pub begun : {M : Type 1} {𝓤 : Ura M} (𝓛 : Logic 𝓤) (mem : Memory → SProp 𝓤) (run : Routine → Fun 𝓤)
       (𝓣 : Tables 𝓤 𝓛.H) (τ : Ty) (name : Name) → Typed R τ → Triple 𝓤 (𝓣.C #new) (New 𝓛 mem run) → Triple 𝓤 (𝓣.C name) (Next 𝓛 mem run) →
-      Meets 𝓛 this.signature (WpFn 𝓤 𝓛.H 𝓣.C 𝓣.Λ (function τ name)) (closing 𝓛 this (this-clauses 𝓤))
+      Meets 𝓛 this.signature (WpFn 𝓤 𝓛.H 𝓣.C 𝓣.Λ (function τ name)) (closing 𝓛 this (this_clauses 𝓤))
   begun {𝓤 = 𝓤} 𝓛 mem run 𝓣 τ name typed known-new known_next =
       walk_Meets 𝓛 this stayed
-      (Goes-none_slice 𝓛 1 (0 ∷ []) tt (plain (λ _. u8)) yes, tt) (this-clauses 𝓤) (WpFn 𝓤 𝓛.H 𝓣.C 𝓣.Λ (function τ name))
+      (Goes-none_slice 𝓛 1 (0 ∷ []) tt (plain (λ _. u8)) yes, tt) (this_clauses 𝓤) (WpFn 𝓤 𝓛.H 𝓣.C 𝓣.Λ (function τ name))
       (WpFn-mono 𝓤 𝓛.H 𝓛.laws 𝓣 (function τ name)) (walks 𝓛 mem run τ name typed 𝓣.C 𝓣.Λ (fm_of 𝓤 𝓛.H 𝓛.laws 𝓣) known-new known_next)

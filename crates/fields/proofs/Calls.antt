@@ -1,7 +1,7 @@
 -- A call in a walk by hand, as one step: what the callee asks is had, its operands are read, and what it answers is known as a value of its type,
 -- at the machine value that lowering gives it. For the walks of functions that hold a `Reader`, which the borrow checker does not cover.
---     asks, asks-last              the callee is handed what an entry i of the context gives. The tokens come back, and what the answer owns
---     asks-plainly, asks-plainly-last      the callee's parameters and its answer are plain: nothing is handed to it, and the context stays
+--     asks, asks_last              the callee is handed what an entry i of the context gives. The tokens come back, and what the answer owns
+--     asks_plainly, asks_plainly_last      the callee's parameters and its answer are plain: nothing is handed to it, and the context stays
 --     handed                       what a callee asks that takes a reader, and plain parameters after it
 --     moves                        a reader is moved to a place
 --     cells                        the locals of a function, the last one first, each with what lies in it
@@ -116,8 +116,8 @@ module _ {M : Type 1} {𝓤 : Ura M} (𝓛 : Logic 𝓤) (T : Ended) (c : Clause
   Said y Says = (r : (R y).Denot) (ws : Lasts T y.0.0 y.0.3) → (c y.0.0 y.0.3).ensures y.1 r (at_exit T y.0.0 y.0.3 ws)
       ≡ fact 𝓤 (Says r)
 
-  heard-of : (y : Asked.Ghost) (Says : (R y).Denot → Type 0) → Said y Says → (r : (R y).Denot) → ent 𝓤 (Ensured y r) (fact 𝓤 (Says r))
-  heard-of y Says said r = ex_e 𝓤 _ (λ ws. subst (ent 𝓤 (sep 𝓤 (sem 𝓛 (lasts T y.0.0 y.0.3 ws)) ((c y.0.0 y.0.3).ensures y.1 r
+  heard_of_lem : (y : Asked.Ghost) (Says : (R y).Denot → Type 0) → Said y Says → (r : (R y).Denot) → ent 𝓤 (Ensured y r) (fact 𝓤 (Says r))
+  heard_of_lem y Says said r = ex_e 𝓤 _ (λ ws. subst (ent 𝓤 (sep 𝓤 (sem 𝓛 (lasts T y.0.0 y.0.3 ws)) ((c y.0.0 y.0.3).ensures y.1 r
       (at_exit T y.0.0 y.0.3 ws)))) (said r ws) (snd∗ 𝓤 (sem 𝓛 (lasts T y.0.0 y.0.3 ws)) ((c y.0.0 y.0.3).ensures y.1 r
       (at_exit T y.0.0 y.0.3 ws))))
 
@@ -132,7 +132,7 @@ module _ {M : Type 1} {𝓤 : Ura M} (𝓛 : Logic 𝓤) (T : Ended) (c : Clause
       answered t G soaks u k =
           use1 𝓛 (later (some (λ (r : (R y).Denot). (raw (Tokens y) ⊛ ‵ ((R y).own r (u ∷ []))) ⊛ raw (Ensured y r)))) (id⊢ 𝓤 _) $
           await t (soaks u) $ pick t (λ r.
-          split t $ move t (1 ∷ []) $ use1 𝓛 (raw (fact 𝓤 (Says r))) (heard-of y Says said r) $ heard t (Says r) (λ e. split t $ move t (1 ∷ []) $
+          split t $ move t (1 ∷ []) $ use1 𝓛 (raw (fact 𝓤 (Says r))) (heard_of_lem y Says said r) $ heard t (Says r) (λ e. split t $ move t (1 ∷ []) $
           peeks t (R y) (Is (R y)) (shows 𝓛 (R y)) r (u ∷ []) (λ is. move t (1 ∷ 0 ∷ []) $
           subst (λ (vs : List Val). Seq K 𝓛 (raw (Tokens y) ∷ ‵ ((R y).own r (only vs ∷ [])) ∷ Γ) (G (only vs))) (sym (L.val_is r (u ∷ []) is))
           (k r (subst (Is (R y) r) (L.val_is r (u ∷ []) is) is) e))))
@@ -151,36 +151,36 @@ module _ {M : Type 1} {𝓤 : Ura M} {𝓛 : Logic 𝓤} {K : Type 0} {Γ : List
       calls_from t fm i ((Asked 𝓛 T c).args y) ((Asked 𝓛 T c).post y) (via 𝓤 ((Asked 𝓛 T c).pre y) has met) os
       (λ u. answered 𝓛 T c K Γ y L Says said t (λ v. lands C Λ E d v rest q) (λ v. tt) u k)
 
-  pub asks-last : K → FmC 𝓤 H 𝓛.laws C → (T : Ended) (c : Clauses 𝓤 T) (y : (Asked 𝓛 T c).Ghost) (L : Lowered (R 𝓛 T c y))
+  pub asks_last : K → FmC 𝓤 H 𝓛.laws C → (T : Ended) (c : Clauses 𝓤 T) (y : (Asked 𝓛 T c).Ghost) (L : Lowered (R 𝓛 T c y))
       (Says : (R 𝓛 T c y).Denot → Type 0) → Said 𝓛 T c y Says
       → (i : Item 𝓤) → ent 𝓤 (mean 𝓛 i) ((Asked 𝓛 T c).pre y)
       → ent 𝓤 ((Asked 𝓛 T c).pre y) (C f ((Asked 𝓛 T c).args y) ((Asked 𝓛 T c).post y))
       → Opds K 𝓛 (i ∷ Γ) E xs ((Asked 𝓛 T c).args y)
       → Then 𝓛 T c K Γ y L Says (λ u. settles E d u q) → Seq K 𝓛 (i ∷ Γ) (runs C Λ E (call f xs d) q)
-  asks-last t fm T c y L Says said i has met os k =
+  asks_last t fm T c y L Says said i has met os k =
       calls_from_last t fm i ((Asked 𝓛 T c).args y) ((Asked 𝓛 T c).post y) (via 𝓤 ((Asked 𝓛 T c).pre y) has met) os
       (λ u. answered 𝓛 T c K Γ y L Says said t (λ v. settles E d v q) (λ v. tt) u k)
 
-  pub asks-plainly : K → FmC 𝓤 H 𝓛.laws C → {rest : Body} (T : Ended) (c : Clauses 𝓤 T) (y : (Asked 𝓛 T c).Ghost)
+  pub asks_plainly : K → FmC 𝓤 H 𝓛.laws C → {rest : Body} (T : Ended) (c : Clauses 𝓤 T) (y : (Asked 𝓛 T c).Ghost)
       → ent 𝓤 (emp 𝓤) (Tokens 𝓛 T c y) → Plains 𝓛 T c y → Passed 𝓛 T c y → ent 𝓤 (emp 𝓤) (Requires 𝓛 T c y)
       → (L : Lowered (R 𝓛 T c y)) (Says : (R 𝓛 T c y).Denot → Type 0) → Said 𝓛 T c y Says
       → ent 𝓤 ((Asked 𝓛 T c).pre y) (C f ((Asked 𝓛 T c).args y) ((Asked 𝓛 T c).post y))
       → Opds K 𝓛 (‵ ftrue ∷ Γ) E xs ((Asked 𝓛 T c).args y)
       → ((r : (R 𝓛 T c y).Denot) → Is (R 𝓛 T c y) r (L.lowered r ∷ []) → Says r → Seq K 𝓛 Γ (lands C Λ E d (L.lowered r) rest q))
       → Seq K 𝓛 Γ (runs C Λ E (seq (call f xs d) rest) q)
-  asks-plainly t fm T c y tokens makes are asked L Says said met os k =
+  asks_plainly t fm T c y tokens makes are asked L Says said met os k =
       nothing t $ asks t fm T c y L Says said (‵ ftrue) (plainly 𝓛 T c y tokens makes are asked) met os
       (λ r is e. drop t $ drop t $ k r is e)
 
-  pub asks-plainly-last : K → FmC 𝓤 H 𝓛.laws C → (T : Ended) (c : Clauses 𝓤 T) (y : (Asked 𝓛 T c).Ghost)
+  pub asks_plainly_last : K → FmC 𝓤 H 𝓛.laws C → (T : Ended) (c : Clauses 𝓤 T) (y : (Asked 𝓛 T c).Ghost)
       → ent 𝓤 (emp 𝓤) (Tokens 𝓛 T c y) → Plains 𝓛 T c y → Passed 𝓛 T c y → ent 𝓤 (emp 𝓤) (Requires 𝓛 T c y)
       → (L : Lowered (R 𝓛 T c y)) (Says : (R 𝓛 T c y).Denot → Type 0) → Said 𝓛 T c y Says
       → ent 𝓤 ((Asked 𝓛 T c).pre y) (C f ((Asked 𝓛 T c).args y) ((Asked 𝓛 T c).post y))
       → Opds K 𝓛 (‵ ftrue ∷ Γ) E xs ((Asked 𝓛 T c).args y)
       → ((r : (R 𝓛 T c y).Denot) → Is (R 𝓛 T c y) r (L.lowered r ∷ []) → Says r → Seq K 𝓛 Γ (settles E d (L.lowered r) q))
       → Seq K 𝓛 Γ (runs C Λ E (call f xs d) q)
-  asks-plainly-last t fm T c y tokens makes are asked L Says said met os k =
-      nothing t $ asks-last t fm T c y L Says said (‵ ftrue) (plainly 𝓛 T c y tokens makes are asked) met os
+  asks_plainly_last t fm T c y tokens makes are asked L Says said met os k =
+      nothing t $ asks_last t fm T c y L Says said (‵ ftrue) (plainly 𝓛 T c y tokens makes are asked) met os
       (λ r is e. drop t $ drop t $ k r is e)
 
 module _ {M : Type 1} {𝓤 : Ura M} {𝓛 : Logic 𝓤} {K : Type 0} {Γ : List (Item 𝓤)} {C : Calls 𝓤 𝓛.H} {Λ : Loops 𝓤 𝓛.H}

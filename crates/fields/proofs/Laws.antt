@@ -47,9 +47,9 @@ front_long s at h =
 
 -- with the length n as the code has it
 module _ (s : List ℕ) (at n : ℕ) (e : n ≡ get_or s (at + 1) 0 * 256 + get_or s (at + 2) 0) where
-  pub front-overrun : at + 3 ≤ length s → length s < at + 3 + n → front at (drop at s) ≡ Overrun (get_or s at 0) n
+  pub front_overrun : at + 3 ≤ length s → length s < at + 3 + n → front at (drop at s) ≡ Overrun (get_or s at 0) n
   unfolding measured
-  front-overrun h k =
+  front_overrun h k =
       front_long s at h ∙ rw (← e, holds_few n (drop (at + 3) s) (simp length-drop (omega arith))) refl
 
   pub front_fits : at + 3 + n ≤ length s → front at (drop at s) ≡ Whole (get_or s at 0) n (at + 3 + n)
@@ -85,13 +85,13 @@ field_whole tag high low n v e h k =
 
 measured_lies : (at tag high low : ℕ) (v : List ℕ) → Lies at (tag ∷ high ∷ low ∷ v) (measured at tag (high * 256 + low) v)
 unfolding measured Bytes
-measured_lies at tag high low v = by-test (holds (high * 256 + low) v) refl
+measured_lies at tag high low v = by_test (holds (high * 256 + low) v) refl
   where
-    by-test : (b : Bool) → holds (high * 256 + low) v ≡ b →
+    by_test : (b : Bool) → holds (high * 256 + low) v ≡ b →
         Lies at (tag ∷ high ∷ low ∷ v) (cond b (Whole tag (high * 256 + low) (at + 3 + (high * 256 + low))) (Overrun tag (high * 256 + low)))
-    by-test true e = let h = holds_true (high * 256 + low) v e in
+    by_test true e = let h = holds_true (high * 256 + low) v e in
         (refl, omega arith, λ b. field_whole tag high low (high * 256 + low) v refl h b.1.1.0)
-    by-test false e = omega arith
+    by_test false e = omega arith
 
 pub front_lies : (at : ℕ) (l : List ℕ) → Lies at l (front at l)
 unfolding front
@@ -110,21 +110,21 @@ module _ (at : ℕ) (l : List ℕ) where
   lies : (f : Field) → front at l ≡ f → Lies at l f
   lies f e = subst (Lies at l) e (front_lies at l)
 
-  pub row-end : front at l ≡ End → rows 0 at l ≡ stop at
+  pub row_end : front at l ≡ End → rows 0 at l ≡ stop at
   unfolding rows
-  row-end e = rw (lies End e) refl
+  row_end e = rw (lies End e) refl
 
-  pub row-stub : (tag : ℕ) → front at l ≡ Stub tag → rows 0 at l ≡ stub at tag
+  pub row_stub : (tag : ℕ) → front at l ≡ Stub tag → rows 0 at l ≡ stub at tag
   unfolding onto
-  row-stub tag e = row_at_lem at l (Stub tag) e (lies (Stub tag) e)
+  row_stub tag e = row_at_lem at l (Stub tag) e (lies (Stub tag) e)
 
-  pub row-overrun : (tag n : ℕ) → front at l ≡ Overrun tag n → rows 0 at l ≡ overrun at tag n
+  pub row_overrun : (tag n : ℕ) → front at l ≡ Overrun tag n → rows 0 at l ≡ overrun at tag n
   unfolding onto
-  row-overrun tag n e = row_at_lem at l (Overrun tag n) e (let h = lies (Overrun tag n) e in omega arith)
+  row_overrun tag n e = row_at_lem at l (Overrun tag n) e (let h = lies (Overrun tag n) e in omega arith)
 
-  pub row-whole : (tag n next : ℕ) → front at l ≡ Whole tag n next → rows 0 at l ≡ field at tag (take n (drop 3 l)) (rows 0 next (drop n (drop 3 l)))
+  pub row_whole : (tag n next : ℕ) → front at l ≡ Whole tag n next → rows 0 at l ≡ field at tag (take n (drop 3 l)) (rows 0 next (drop n (drop 3 l)))
   unfolding onto past
-  row-whole tag n next e =
+  row_whole tag n next e =
       let h = lies (Whole tag n next) e in
       let k : 2 + n ≤ length (drop 1 l) = simp length-drop (omega arith) in
       let p : at + 1 + (2 + n) ≡ next = omega arith in
@@ -141,28 +141,28 @@ row_further s at tag n next e =
     let h : 3 + n ≤ length s - at = simp length-drop at r.1 in
     let d : drop 3 (drop at s) ≡ drop (at + 3) s = drop-drop 3 at s in
     let f : drop n (drop (at + 3) s) ≡ drop next s = drop-drop n (at + 3) s ∙ (λ i. drop (sym r.0 i) s) in (
-      row-whole at (drop at s) tag n next e
+      row_whole at (drop at s) tag n next e
           ∙ (λ i. field at tag (take n (d i)) (rows 0 next (drop n (d i)))) ∙ (λ i. field at tag (take n (drop (at + 3) s)) (rows 0 next (f i))),
       r.0,
       omega arith,
     )
 
 -- the row at a place, by the field that stands there
-abbrev pub row_from : List ℕ → ℕ → Field → Row
-row_from s at End = stop at
-row_from s at (Stub tag) = stub at tag
-row_from s at (Overrun tag n) = overrun at tag n
-row_from s at (Whole tag n next) = field at tag (take n (drop (at + 3) s)) (row_at s next)
+abbrev pub row_from_lem : List ℕ → ℕ → Field → Row
+row_from_lem s at End = stop at
+row_from_lem s at (Stub tag) = stub at tag
+row_from_lem s at (Overrun tag n) = overrun at tag n
+row_from_lem s at (Whole tag n next) = field at tag (take n (drop (at + 3) s)) (row_at s next)
 
-pub row_from_lem : (s : List ℕ) (at : ℕ) (f : Field) → front at (drop at s) ≡ f → row_at s at ≡ row_from s at f
-row_from_lem s at End e = row-end at (drop at s) e
-row_from_lem s at (Stub tag) e = row-stub at (drop at s) tag e
-row_from_lem s at (Overrun tag n) e = row-overrun at (drop at s) tag n e
+pub row_from_lem : (s : List ℕ) (at : ℕ) (f : Field) → front at (drop at s) ≡ f → row_at s at ≡ row_from_lem s at f
+row_from_lem s at End e = row_end at (drop at s) e
+row_from_lem s at (Stub tag) e = row_stub at (drop at s) tag e
+row_from_lem s at (Overrun tag n) e = row_overrun at (drop at s) tag n e
 row_from_lem s at (Whole tag n next) e = (row_further s at tag n next e).0
 
 -- a reader of one field, by what it gives for the field that stands there
 pub read_at : {A : Type 0} {make : Row → A} {s : List ℕ} {at : ℕ} {made : A} {next : ℕ} (f : Field) → front at (drop at s) ≡ f →
-    made ≡ make (row_from s at f) → next ≡ next_of f at → ReadAt make s at made next
+    made ≡ make (row_from_lem s at f) → next ≡ next_of f at → ReadAt make s at made next
 read_at {A} {make} {s} {at} f e p q = record { what = p ∙ ap make (sym (row_from_lem s at f e)); where_next = rw e q }
 
 -- ---- the row of a field that was written
@@ -174,7 +174,7 @@ front_field at tag v l =
 
 pub rows_field : (at tag : ℕ) (v l : List ℕ) → rows 0 at (field_bytes tag v l) ≡ field at tag v (rows 0 (at + 3 + length v) l)
 rows_field at tag v l =
-    row-whole at (field_bytes tag v l) tag (length v) (at + 3 + length v) (front_field at tag v l)
+    row_whole at (field_bytes tag v l) tag (length v) (at + 3 + length v) (front_field at tag v l)
     ∙ rw (take-append_seam v l, drop-append_seam v l) refl
 
 -- ---- bytes_of
@@ -208,14 +208,14 @@ BackUpTo k = (at : ℕ) (l : List ℕ) → length l ≤ k → Bytes l → Back l
 
 by_field : (k at : ℕ) (l : List ℕ) (f : Field) → front at l ≡ f → length l ≤ suc k → Bytes l → BackUpTo k → Back l (rows 0 at l)
 unfolding bytes_of
-by_field k at l End e h b ih = rw (row-end at l e) (tt, λ n. sym (lies at l End e))
-by_field k at l (Stub tag) e h b ih = rw (row-stub at l tag e) (tt, λ n. absurd n)
-by_field k at l (Overrun tag m) e h b ih = rw (row-overrun at l tag m e) (tt, λ n. absurd n)
+by_field k at l End e h b ih = rw (row_end at l e) (tt, λ n. sym (lies at l End e))
+by_field k at l (Stub tag) e h b ih = rw (row_stub at l tag e) (tt, λ n. absurd n)
+by_field k at l (Overrun tag m) e h b ih = rw (row_overrun at l tag m e) (tt, λ n. absurd n)
 by_field k at l (Whole tag m next) e h b ih =
     let r = lies at l (Whole tag m next) e in
     let v : Bytes (drop 3 l) = drop_bytes 3 l b in
     let i = ih next (drop m (drop 3 l)) (simp length-drop (omega arith)) (drop_bytes m (drop 3 l) v) in
-    rw (row-whole at l tag m next e) ((take_bytes m (drop 3 l) v, i.0), λ n. ap (field_bytes tag (take m (drop 3 l))) (i.1 n) ∙ sym (r.2 b))
+    rw (row_whole at l tag m next e) ((take_bytes m (drop 3 l) v, i.0), λ n. ap (field_bytes tag (take m (drop 3 l))) (i.1 n) ∙ sym (r.2 b))
 
 -- by recursion on a bound of the length
 back_by : (k : ℕ) → BackUpTo k

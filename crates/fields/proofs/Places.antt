@@ -5,7 +5,7 @@ use lib.ListN.{drop_of_length-le}
 use Rattle.lists.proofs.Tests.{split}
 use Rattle.fields.specs.declared.Field.TheVariants.{End}
 use Rattle.fields.specs.Fields.{front, Row, stop, stub, overrun, field, row_at, FieldStarts, at_first, behind}
-use Rattle.fields.proofs.Laws.{front_short, front-overrun, front_fits, row_from_lem, row_further}
+use Rattle.fields.proofs.Laws.{front_short, front_overrun, front_fits, row_from_lem, row_further}
 
 -- a field begins here, with this tag and this length as written
 pub record Headed (s : List ℕ) (at tag n : ℕ) : Type 0 where
@@ -45,7 +45,7 @@ module _ (s : List ℕ) where
     headed = record { starts = b; head = head; tag_is = refl; length_is = refl }
 
     overran : length s < at + 3 + n → LaidOut s (row_at s at)
-    overran h = rw (row_from_lem s at _ (front-overrun s at n refl head h)) (headed, h)
+    overran h = rw (row_from_lem s at _ (front_overrun s at n refl head h)) (headed, h)
 
     went_on : at + 3 + n ≤ length s → LaidOut s (row_at s (at + 3 + n)) → LaidOut s (row_at s at)
     went_on h rest =

@@ -86,11 +86,11 @@ module _ (R : RattleType) (Found : List ℕ → ℕ → R.Denot → Type 0) wher
         kept = (yes, (yes, tt));
       }
 
-  abbrev pub this-clauses : {M : Type 1} (𝓤 : Ura M) → Clauses 𝓤 this
-  this-clauses 𝓤 κs a = record { ghost = Unit {0}; requires = λ g. emp 𝓤; ensures = λ g r e. fact 𝓤 (Found a.0.bytes.now a.0.place r) }
+  abbrev pub this_clauses : {M : Type 1} (𝓤 : Ura M) → Clauses 𝓤 this
+  this_clauses 𝓤 κs a = record { ghost = Unit {0}; requires = λ g. emp 𝓤; ensures = λ g r e. fact 𝓤 (Found a.0.bytes.now a.0.place r) }
 
-  abbrev step-clauses : {M : Type 1} (𝓤 : Ura M) → Clauses 𝓤 step
-  step-clauses 𝓤 κs a = record { ghost = Unit {0}; requires = λ g. emp 𝓤; ensures = λ g r e. fact 𝓤 (Found a.0.now a.1.0 r) }
+  abbrev step_clauses : {M : Type 1} (𝓤 : Ura M) → Clauses 𝓤 step
+  step_clauses 𝓤 κs a = record { ghost = Unit {0}; requires = λ g. emp 𝓤; ensures = λ g r e. fact 𝓤 (Found a.0.now a.1.0 r) }
 
   abbrev stayed : Stays this.signature.params this.kept
   stayed = (stay_none B yes, tt)
@@ -98,7 +98,7 @@ module _ (R : RattleType) (Found : List ℕ → ℕ → R.Denot → Type 0) wher
   module _ {M : Type 1} {𝓤 : Ura M} (𝓛 : Logic 𝓤) where
     -- the contract that the walk cites
     abbrev pub StepAt : Contract 𝓤
-    StepAt = triple_of 𝓛 step.signature (closing 𝓛 step (step-clauses 𝓤))
+    StepAt = triple_of 𝓛 step.signature (closing 𝓛 step (step_clauses 𝓤))
 
   module _ {M : Type 1} {𝓤 : Ura M} (𝓛 : Logic 𝓤) (κ : Lft) (q : Share) (d : Reader) where
     open 𝓛 use {H}
@@ -114,7 +114,7 @@ module _ (R : RattleType) (Found : List ℕ → ℕ → R.Denot → Type 0) wher
     Said = Found d.bytes.now d.place
 
     abbrev Post : Val → SProp 𝓤
-    Post = (walk_of 𝓛 this stayed (this-clauses 𝓤)).post (((κ, tt), (q, tt), tt, (d, tt), (mach ∷ [], tt)), tt)
+    Post = (walk_of 𝓛 this stayed (this_clauses 𝓤)).post (((κ, tt), (q, tt), tt, (d, tt), (mach ∷ [], tt)), tt)
 
     abbrev Own : Fml
     Own = (B (κ, tt)).own d (mach ∷ [])
@@ -155,13 +155,13 @@ module _ (R : RattleType) (Found : List ℕ → ℕ → R.Denot → Type 0) wher
         move ! (2 ∷ 0 ∷ []) $ use2 𝓛 (raw ((StepAt 𝓛).pre to)) asked $ frame ! $ done !)
 
     -- of the callee's `ensured`, the clause alone: it has no `&mut`, so what is said of last values is dropped
-    said : (r : R.Denot) → ent 𝓤 (ensured 𝓛 step (step-clauses 𝓤) (κ, tt) (d.bytes, (d.place, tt)) tt r) (fact 𝓤 (Said r))
+    said : (r : R.Denot) → ent 𝓤 (ensured 𝓛 step (step_clauses 𝓤) (κ, tt) (d.bytes, (d.place, tt)) tt r) (fact 𝓤 (Said r))
     said r = ex_e 𝓤 _ (λ ws. snd∗ 𝓤 (sem 𝓛 (lasts step (κ, tt) (d.bytes, (d.place, tt)) ws)) (fact 𝓤 (Said r)))
 
     exits : (r : R.Denot) (u : Val) → Said r → ent 𝓤 (⋆ 𝓛 (‵ (R.own r (u ∷ [])) ∷ (‵ (flft κ q) ⊛ ‵ ftrue) ∷ ‵ Own ∷ [])) (Post u)
     exits r u e =
         qed 𝓛 (‵ (R.own r (u ∷ [])) ∷ (‵ (flft κ q) ⊛ ‵ ftrue) ∷ ‵ Own ∷ []) ∵
-        suffices ! _ (ends_at 𝓛 this stayed (this-clauses 𝓤) (((κ, tt), (q, tt), tt, (d, tt), (mach ∷ [], tt)), tt) u r (tt, tt) (tt, tt)) $
+        suffices ! _ (ends_at 𝓛 this stayed (this_clauses 𝓤) (((κ, tt), (q, tt), tt, (d, tt), (mach ∷ [], tt)), tt) u r (tt, tt) (tt, tt)) $
         says ! e $
         move ! (1 ∷ []) $ frame ! $ nothing ! $ move ! (2 ∷ 0 ∷ []) $ fjoin ! $ frame ! $ done !
 
@@ -180,7 +180,7 @@ module _ (R : RattleType) (Found : List ℕ → ℕ → R.Denot → Type 0) wher
           calls_at ! fm (StepAt 𝓛) known to
           (and_then ! (load ! (from ! (stop !)) (look ! 4 refl)) (and_then ! (load ! (from ! (stop !)) (look ! 2 refl)) (no_more !))) (λ u.
           use1 𝓛 (later (some (λ (r : R.Denot). ((‵ (flft κ q) ⊛ ‵ ftrue) ⊛ ‵ (R.own r (u ∷ []))) ⊛ raw
-          (ensured 𝓛 step (step-clauses 𝓤) (κ, tt) (d.bytes, (d.place, tt)) tt r)))) (id⊢ 𝓤 _) $ await ! tt $ pick ! (λ r.
+          (ensured 𝓛 step (step_clauses 𝓤) (κ, tt) (d.bytes, (d.place, tt)) tt r)))) (id⊢ 𝓤 _) $ await ! tt $ pick ! (λ r.
           split ! $ move ! (1 ∷ []) $ use1 𝓛 (raw (fact 𝓤 (Said r))) (said r) $ heard ! (Said r) (λ e. split ! $ move ! (1 ∷ []) $
           -- [the result; the token; what the struct owns; _3; …; _2; …; _1; …; room for _0; …]
           peeks ! R (Is R) (shows 𝓛 R) r (u ∷ []) (λ is.
@@ -193,17 +193,17 @@ module _ (R : RattleType) (Found : List ℕ → ℕ → R.Denot → Type 0) wher
     open 𝓛 use {H}
 
     walks : (τ : Ty) (name : Name) → Typed R τ → (C : Calls 𝓤 H) (Λ : Loops 𝓤 H) → FmC 𝓤 H 𝓛.laws C → Triple 𝓤 (C name) (StepAt 𝓛)
-        → Walks 𝓛 this stayed (WpFn 𝓤 H C Λ (function τ name)) (this-clauses 𝓤)
+        → Walks 𝓛 this stayed (WpFn 𝓤 H C Λ (function τ name)) (this_clauses 𝓤)
     walks τ name typed C Λ fm known =
         walked 𝓛 this stayed
-        (this-clauses 𝓤) (WpFn 𝓤 H C Λ (function τ name)) (λ κs. (LL.vals (T.the_type (named_lft 1 0 tt κs)) (T'.the_laws (named_lft 1 0 tt κs)), tt))
+        (this_clauses 𝓤) (WpFn 𝓤 H C Λ (function τ name)) (λ κs. (LL.vals (T.the_type (named_lft 1 0 tt κs)) (T'.the_laws (named_lft 1 0 tt κs)), tt))
         (λ κs. (LL.tells (T.the_type (named_lft 1 0 tt κs)) (T'.the_laws (named_lft 1 0 tt κs)), tt))
         (λ κs qs bounds a g are. via 𝓤 _ (fst∗ 𝓤 _ (emp 𝓤)) (walk 𝓛 κs.0 qs.0 a.0 τ name typed C Λ fm known
         ((LL.lawful (T.the_type (named_lft 1 0 tt κs)) (T'.the_laws (named_lft 1 0 tt κs)) 𝓛).typed a.0 _ are.0).0))
 
   pub through : {M : Type 1} {𝓤 : Ura M} (𝓛 : Logic 𝓤) (𝓣 : Tables 𝓤 𝓛.H) (τ : Ty) (name : Name) → Typed R τ
       → Triple 𝓤 (𝓣.C name) (StepAt 𝓛)
-      → Meets 𝓛 this.signature (WpFn 𝓤 𝓛.H 𝓣.C 𝓣.Λ (function τ name)) (closing 𝓛 this (this-clauses 𝓤))
+      → Meets 𝓛 this.signature (WpFn 𝓤 𝓛.H 𝓣.C 𝓣.Λ (function τ name)) (closing 𝓛 this (this_clauses 𝓤))
   through {𝓤 = 𝓤} 𝓛 𝓣 τ name typed known =
-      walk_Meets 𝓛 this stayed (Goes-none 𝓛 1 B yes (λ κs x f. refl), tt) (this-clauses 𝓤) (WpFn 𝓤 𝓛.H 𝓣.C 𝓣.Λ (function τ name))
+      walk_Meets 𝓛 this stayed (Goes-none 𝓛 1 B yes (λ κs x f. refl), tt) (this_clauses 𝓤) (WpFn 𝓤 𝓛.H 𝓣.C 𝓣.Λ (function τ name))
       (WpFn-mono 𝓤 𝓛.H 𝓛.laws 𝓣 (function τ name)) (walks 𝓛 τ name typed 𝓣.C 𝓣.Λ (fm_of 𝓤 𝓛.H 𝓛.laws 𝓣) known)

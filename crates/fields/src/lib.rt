@@ -1,9 +1,11 @@
 // Fields of lent bytes, and a reader that keeps its place among them.
+#![tactic(auto)]
+
 ghost use Rattle.std.specs.Prelude.{◌≡◌, ◌+◌, ◌*◌, drop};
 ghost use Rattle.fields.specs.Fields.{front};
 
 // What stands at a place of the bytes.
-#[derive(Drop)]
+#[derive(Clone, Copy)]
 pub enum Field {
     // No byte is left.
     End,
@@ -58,7 +60,7 @@ pub fn field_at(bytes: &[u8], at: usize) -> Field
 }
 
 // S13: a reader has the bytes that were lent, and the place in them up to which they are read.
-#[derive(Drop)]
+#[derive(Clone, Copy)]
 pub struct Reader<'a> {
     pub bytes: &'a [u8],
     pub place: usize,

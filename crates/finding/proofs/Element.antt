@@ -1,8 +1,8 @@
 -- One element of an array of structs in memory: it is taken out, at its own address, and it or another is put back. It says nothing of any crate.
 --     Others           what is kept while element i is out: that there are n elements, and the others
---     element-out      the share q of an array of n structs gives that of element i, as the struct's own row, at its place, and the others
---     element-back     the same element there and the others give the array as it was
---     element-put      a struct y there and the others give the array with y at i
+--     element_out      the share q of an array of n structs gives that of element i, as the struct's own row, at its place, and the others
+--     element_back     the same element there and the others give the array as it was
+--     element_put      a struct y there and the others give the array with y at i
 -- S is the declared type of the elements.
 use Rattle.lists.proofs.Basics.{◌≡◌, refl, sym, ap, subst, ◌∙◌, ℕ, zero, suc, ◌<◌, List, [], ◌∷◌, map, length, get_or, set, length-map}
 use lib.ListN.{get_or-map}
@@ -45,10 +45,10 @@ module _ (S : Declared) (n : ℕ) (q : Share) (xs : List S.D) (i : ℕ) (b p : �
   Others = fsep (feq ℕ (length rs) n) (others (shares R) q rs i b p)
 
   module _ {M : Type 1} {𝓤 : Ura M} (𝓛 : Logic 𝓤) where
-    pub element-out : Single R.mir → (d : S.D) → i < n
+    pub element_out : Single R.mir → (d : S.D) → i < n
         → ent 𝓤 (sem 𝓛 (part_at (Array R n) q rs b p)) (sep 𝓤 (sem 𝓛 (part_at (row S) q (get_or xs i d) b at)) (sem 𝓛 Others))
     unfolding part_of
-    element-out one d l =
+    element_out one d l =
         qed 𝓛 (‵ (part_at (Array R n) q rs b p) ∷ []) ∵
         use1 𝓛 (‵ ((arr_parts (shares R) n).part q rs b p)) (Array-apart 𝓛 R q one n rs b p) $ fsplit ! $ feq_l ! (λ e.
         use1 𝓛 (‵ (part_at R q (get_or rs i (S.to d)) b at) ⊛ ‵ (others (shares R) q rs i b p))
@@ -56,20 +56,20 @@ module _ (S : Declared) (n : ℕ) (q : Share) (xs : List S.D) (i : ℕ) (b p : �
         rewrite ! 0 (λ (x : R.Denot). ‵ (part_at R q x b at)) (get_or-map S.to xs i d) refl $
         frame ! $ feq_i ! ℕ (length rs) n e $ fjoin ! $ done !)
 
-    pub element-back : (d : S.D) → i < n
+    pub element_back : (d : S.D) → i < n
         → ent 𝓤 (sep 𝓤 (sem 𝓛 (part_at (row S) q (get_or xs i d) b at)) (sem 𝓛 Others)) (sem 𝓛 (part_at (Array R n) q rs b p))
     unfolding part_of
-    element-back d l =
+    element_back d l =
         qed 𝓛 (‵ (part_at R q (S.to (get_or xs i d)) b at) ∷ ‵ Others ∷ []) ∵ move ! (1 ∷ []) $ fsplit ! $ feq_l ! (λ e. move ! (1 ∷ 0 ∷ []) $
         rewrite ! 0 (λ (x : R.Denot). ‵ (part_at R q x b at)) (sym (get_or-map S.to xs i d)) refl $
         use2 𝓛 (‵ (parts (mem R) (shares R) q rs b p))
         (puts_back (shares R) q 𝓛 rs i (S.to d) b p (subst (λ (m : ℕ). i < m) (sym e) l)) $
         feq_i ! ℕ (length rs) n e $ fjoin ! $ use1 𝓛 (‵ (part_at (Array R n) q rs b p)) (Array-whole 𝓛 R q n rs b p) $ done !)
 
-    pub element-put : (y : S.D) → i < n → ent 𝓤 (sep 𝓤 (sem 𝓛 (part_at (row S) q y b at)) (sem 𝓛 Others))
+    pub element_put : (y : S.D) → i < n → ent 𝓤 (sep 𝓤 (sem 𝓛 (part_at (row S) q y b at)) (sem 𝓛 Others))
         (sem 𝓛 (part_at (Array R n) q (map S.to (set xs i y)) b p))
     unfolding part_of
-    element-put y l =
+    element_put y l =
         qed 𝓛 (‵ (part_at R q (S.to y) b at) ∷ ‵ Others ∷ []) ∵ move ! (1 ∷ []) $ fsplit ! $ feq_l ! (λ e. move ! (1 ∷ 0 ∷ []) $
         use2 𝓛 (‵ (parts (mem R) (shares R) q (set rs i (S.to y)) b p))
         (puts (shares R) q 𝓛 rs i (S.to y) b p (subst (λ (m : ℕ). i < m) (sym e) l)) $

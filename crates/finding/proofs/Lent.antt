@@ -1,8 +1,8 @@
 -- A struct in memory is lent to a callee, as one step of a walk by hand: a lifetime is made for the call, the struct at (b, o) goes to the callee as a
 -- reference, and once the call has returned the lifetime is ended and the struct is had again.
---     asks-lent        as a `&mut`: it is had again at the last value that the callee's contract says
---     asks-shared      as a `&`: it is had again as it was
---     handed-on        what a callee asks that takes a reference, and plain parameters after it
+--     asks_lent        as a `&mut`: it is had again at the last value that the callee's contract says
+--     asks_shared      as a `&`: it is had again as it was
+--     handed_on        what a callee asks that takes a reference, and plain parameters after it
 -- The callee's other parameters and its answer are plain. `has` is what the callee asks, `gives` what its contract says, in the words of `Ensures`.
 use Rattle.lists.proofs.Basics.{◌≡◌, sym, subst, ℕ, List, [], ◌∷◌}
 use seplogic.Ra.Ura.{Ura}
@@ -50,10 +50,10 @@ module _ {M : Type 1} {𝓤 : Ura M} (𝓛 : Logic 𝓤) where
       ((‵ (flft (ν ∷ []) full_share) ⊛ ‵ ftrue) ⊛ ‵ (Q.own r (u ∷ []))) ⊛ some (λ (z : Z). ‵ (last z) ⊛ raw (fact 𝓤 (Says r z)))))
 
   -- plain parameters are had for nothing
-  pub handed-on : (κ : Lft) (t : Share) (P : Fml) (Rs : List RattleType) → Makess 𝓛 Rs (Ises Rs) → (a : Denots Rs) (vss : Valss Rs)
+  pub handed_on : (κ : Lft) (t : Share) (P : Fml) (Rs : List RattleType) → Makess 𝓛 Rs (Ises Rs) → (a : Denots Rs) (vss : Valss Rs)
       → Are Rs (Ises Rs) a vss → (Q : SProp 𝓤) → ent 𝓤 (emp 𝓤) Q
       → ent 𝓤 (sep 𝓤 (A.lft κ t) (sem 𝓛 P)) (sep 𝓤 (sep 𝓤 (sep 𝓤 (A.lft κ t) (sem 𝓛 ftrue)) (sem 𝓛 (fsep P (owns Rs a vss)))) Q)
-  handed-on κ t P Rs makes a vss are Q asked =
+  handed_on κ t P Rs makes a vss are Q asked =
       qed 𝓛 (‵ (flft κ t) ∷ ‵ P ∷ []) ∵ nothing ! $ move ! (1 ∷ 0 ∷ []) $ join ! $ join ! $
       by ! (handed 𝓛 (sep 𝓤 (A.lft κ t) (sem 𝓛 ftrue)) P Rs makes a vss are Q asked)
 
@@ -61,7 +61,7 @@ module _ {M : Type 1} {𝓤 : Ura M} {𝓛 : Logic 𝓤} {K : Type 0} {Γ : List
     {E : Env 𝓤 𝓛.H} {f : Name} {xs : List Operand} {d : Place} {q : Post 𝓤 𝓛.H} where
   open 𝓛 use {H}
 
-  pub asks-lent : K → FmC 𝓤 H 𝓛.laws C → {rest : Code} (R Q : RattleType) (L : Lowered Q) (b o : ℕ) (x : R.Denot) (c : Contract 𝓤)
+  pub asks_lent : K → FmC 𝓤 H 𝓛.laws C → {rest : Code} (R Q : RattleType) (L : Lowered Q) (b o : ℕ) (x : R.Denot) (c : Contract 𝓤)
       (y : ℕ → GName → c.Ghost) (Z : Type 0) (last : Z → R.Denot) (Says : Q.Denot → R.Denot → Type 0)
       → ((ν : ℕ) (δ : GName) → ent 𝓤 (Mut 𝓛 R b o x ν δ) (c.pre (y ν δ)))
       → ((ν : ℕ) (δ : GName) (u : Val) → ent 𝓤 (c.post (y ν δ) u)
@@ -71,7 +71,7 @@ module _ {M : Type 1} {𝓤 : Ura M} {𝓛 : Logic 𝓤} {K : Type 0} {Γ : List
       → ((r : Q.Denot) → Is Q r (L.lowered r ∷ []) → (x' : R.Denot) → Says r x'
       → Seq K 𝓛 (‵ (part_at R full_share x' b o) ∷ Γ) (lands C Λ E d (L.lowered r) rest q))
       → Seq K 𝓛 (‵ (part_at R full_share x b o) ∷ Γ) (runs C Λ E (seq (call f xs d) rest) q)
-  asks-lent t fm {rest} R Q L b o x c y Z last Says has gives met os k =
+  asks_lent t fm {rest} R Q L b o x c y Z last Says has gives met os k =
       lft_new t tt (λ ν. move t (1 ∷ []) $
       use1 𝓛 (later (some (λ (δ : GName). ‵ ((MutRef (named 0) (ν ∷ []) R).own_val (ref b o δ x) (vptr b o ∷ [])) ⊛ ‵ (flent (ν ∷ []) (Body (mem R) b o δ)))))
       (lends_ref 𝓛 R (named 0) (ν ∷ []) x b o) $ await t tt $ pick t (λ δ. split t $
@@ -87,7 +87,7 @@ module _ {M : Type 1} {𝓤 : Ura M} {𝓛 : Logic 𝓤} {K : Type 0} {Γ : List
       subst (λ (vs : List Val). Seq K 𝓛 (‵ (part_at R full_share (last z) b o) ∷ Γ) (lands C Λ E d (only vs) rest q)) (sym (L.val_is r (u ∷ []) is))
       (k r (subst (Is Q r) (L.val_is r (u ∷ []) is) is) (last z) e))))))))
 
-  pub asks-shared : K → FmC 𝓤 H 𝓛.laws C → {rest : Code} (R Q : RattleType) (L : Lowered Q) (b o : ℕ) (x : R.Denot) (c : Contract 𝓤)
+  pub asks_shared : K → FmC 𝓤 H 𝓛.laws C → {rest : Code} (R Q : RattleType) (L : Lowered Q) (b o : ℕ) (x : R.Denot) (c : Contract 𝓤)
       (y : ℕ → GName → c.Ghost) (Z : ℕ → GName → Type 0) (last : (ν : ℕ) (δ : GName) → Z ν δ → Fml) (Says : Q.Denot → Type 0)
       → ((ν : ℕ) (δ : GName) → ent 𝓤 (Shr 𝓛 R b o x ν δ) (c.pre (y ν δ)))
       → ((ν : ℕ) (δ : GName) (u : Val) → ent 𝓤 (c.post (y ν δ) u) (mean 𝓛 (Ensures 𝓛 Q (Z ν δ) (last ν δ) (λ r z. Says r) ν u)))
@@ -95,7 +95,7 @@ module _ {M : Type 1} {𝓤 : Ura M} {𝓛 : Logic 𝓤} {K : Type 0} {Γ : List
       → ((ν : ℕ) (δ : GName) → Opds K 𝓛 (raw (c.pre (y ν δ)) ∷ ‵ (flent (ν ∷ []) (part_at R full_share x b o)) ∷ Γ) E xs (c.args (y ν δ)))
       → ((r : Q.Denot) → Is Q r (L.lowered r ∷ []) → Says r → Seq K 𝓛 (‵ (part_at R full_share x b o) ∷ Γ) (lands C Λ E d (L.lowered r) rest q))
       → Seq K 𝓛 (‵ (part_at R full_share x b o) ∷ Γ) (runs C Λ E (seq (call f xs d) rest) q)
-  asks-shared t fm {rest} R Q L b o x c y Z last Says has gives met os k =
+  asks_shared t fm {rest} R Q L b o x c y Z last Says has gives met os k =
       lft_new t tt (λ ν. move t (1 ∷ []) $
       use1 𝓛 (later (some (λ (δ : GName). ‵ ((ShrRef (named 0) (ν ∷ []) R).own_val (ref b o δ x) (vptr b o ∷ [])) ⊛ ‵ (flent (ν ∷ []) (part_at R full_share x b o)))))
       (lends_shr 𝓛 R (named 0) (ν ∷ []) full_share x b o) $ await t tt $ pick t (λ δ. split t $

@@ -1,10 +1,10 @@
 -- A manager in memory, and one slot of it: the settings of its network, and its record. Each is taken out, at its own address, and put back, or another
 -- is put in its place.
---     manager-known                what whoever has a manager in memory knows of it
---     stage-out, stage-back        the stage is its field 0
---     count-out, count-back        the number of networks is its field 2
---     network-out, network-back    the settings in slot i are element i of the manager's field 3
---     state-out, state-put         the record in slot i is element i of its field 4
+--     manager_known                what whoever has a manager in memory knows of it
+--     stage_out, stage_back        the stage is its field 0
+--     count_out, count_back        the number of networks is its field 2
+--     network_out, network_back    the settings in slot i are element i of the manager's field 3
+--     state_out, state_put         the record in slot i is element i of its field 4
 -- At any share, so that both a `&mut` and a `&` to a manager can be gone into.
 use Rattle.lists.proofs.Basics.{◌≡◌, refl, sym, ℕ, ◌+◌, ◌*◌, ◌<◌, List, [], ◌∷◌}
 use seplogic.Ra.Ura.{Ura}
@@ -34,7 +34,7 @@ use Rattle.slots.specs.Manager.{blank_state, network_at, state_at, with_state}
 use Rattle.slots.specs.contracts.Stage as St
 use Rattle.slots.specs.contracts.Manager as Mg
 use Rattle.slots.proofs.Manager.TheLaws as Mg'
-use Rattle.finding.proofs.Element.{Others, element-out, element-back, element-put}
+use Rattle.finding.proofs.Element.{Others, element_out, element_back, element_put}
 
 -- a field's type, with its MIR type
 abbrev member : RattleType → Member
@@ -61,10 +61,10 @@ module _ {M : Type 1} {𝓤 : Ura M} (𝓛 : Logic 𝓤) (q : Share) (m : Manage
   abbrev Rest : ℕ → SProp 𝓤
   Rest k = sep 𝓤 (sem 𝓛 (rest_at q members 0 ((Mg.the_type).to m) b o k)) (PartsBack 𝓛 q (Mg.struct).name members b o)
 
-  pub manager-known : ent 𝓤 (sem 𝓛 (part_at Mg.the_row q m b o))
+  pub manager_known : ent 𝓤 (sem 𝓛 (part_at Mg.the_row q m b o))
       (guard 𝓤 (Is Mg.the_row m (Mg'.lowered m ∷ [])) (sem 𝓛 (part_at Mg.the_row q m b o)))
   unfolding part_of
-  manager-known =
+  manager_known =
       qed 𝓛 (‵ (part_at Mg.the_row q m b o) ∷ []) ∵ fpick ! (λ vs. fsplit ! $
       spelt ! Mg.the_row (Is Mg.the_row) (shows 𝓛 Mg.the_row) (λ z. Mg'.lowered z ∷ []) (Mg'.lowers).val_is q m vs b o $
       move ! (1 ∷ []) $ peeks ! Mg.the_row (Is Mg.the_row) (shows 𝓛 Mg.the_row) m (Mg'.lowered m ∷ []) (λ is. move ! (1 ∷ 0 ∷ []) $ fjoin ! $
@@ -87,67 +87,67 @@ module _ {M : Type 1} {𝓤 : Ura M} (𝓛 : Logic 𝓤) (q : Share) (m : Manage
   unfoldable pub KeptCount : SProp 𝓤
   KeptCount = Rest 2
 
-  pub stage-out : ent 𝓤 (sem 𝓛 (part_at Mg.the_row q m b o)) (sep 𝓤 (sem 𝓛 (part_at St.the_row q m.stage b (o + 0))) KeptStage)
+  pub stage_out : ent 𝓤 (sem 𝓛 (part_at Mg.the_row q m b o)) (sep 𝓤 (sem 𝓛 (part_at St.the_row q m.stage b (o + 0))) KeptStage)
   unfolding part_of KeptStage
-  stage-out = out 0
+  stage_out = out 0
 
-  pub stage-back : ent 𝓤 (sep 𝓤 (sem 𝓛 (part_at St.the_row q m.stage b (o + 0))) KeptStage) (sem 𝓛 (part_at Mg.the_row q m b o))
+  pub stage_back : ent 𝓤 (sep 𝓤 (sem 𝓛 (part_at St.the_row q m.stage b (o + 0))) KeptStage) (sem 𝓛 (part_at Mg.the_row q m b o))
   unfolding part_of KeptStage
-  stage-back = back m 0
+  stage_back = back m 0
 
-  pub count-out : ent 𝓤 (sem 𝓛 (part_at Mg.the_row q m b o)) (sep 𝓤 (sem 𝓛 (part_at u8 q m.count b (o + 2))) KeptCount)
+  pub count_out : ent 𝓤 (sem 𝓛 (part_at Mg.the_row q m b o)) (sep 𝓤 (sem 𝓛 (part_at u8 q m.count b (o + 2))) KeptCount)
   unfolding part_of KeptCount
-  count-out = out 2
+  count_out = out 2
 
-  pub count-back : ent 𝓤 (sep 𝓤 (sem 𝓛 (part_at u8 q m.count b (o + 2))) KeptCount) (sem 𝓛 (part_at Mg.the_row q m b o))
+  pub count_back : ent 𝓤 (sep 𝓤 (sem 𝓛 (part_at u8 q m.count b (o + 2))) KeptCount) (sem 𝓛 (part_at Mg.the_row q m b o))
   unfolding part_of KeptCount
-  count-back = back m 2
+  count_back = back m 2
 
   -- what is kept while the settings of slot i are out
   unfoldable pub KeptNetwork : SProp 𝓤
   KeptNetwork = sep 𝓤 (sem 𝓛 (Others N.the_type 8 q m.networks i b (o + 4))) (Rest 3)
 
-  pub network-out : i < 8 → ent 𝓤 (sem 𝓛 (part_at Mg.the_row q m b o))
+  pub network_out : i < 8 → ent 𝓤 (sem 𝓛 (part_at Mg.the_row q m b o))
       (sep 𝓤 (sem 𝓛 (part_at N.the_row q (network_at m i) b (network_spot o i))) KeptNetwork)
   unfolding KeptNetwork
-  network-out l =
+  network_out l =
       qed 𝓛 (‵ (part_at Mg.the_row q m b o) ∷ []) ∵
       use1 𝓛 (‵ (one_at q members 0 ((Mg.the_type).to m) b o 3) ⊛ raw (Rest 3))
       (out 3) $ split ! $
       use1 𝓛 (‵ (part_at N.the_row q (network_at m i) b (place 18 (o + 4) i)) ⊛ ‵ (Others N.the_type 8 q m.networks i b (o + 4)))
-      (element-out N.the_type 8 q m.networks i b (o + 4) 𝓛 tt blank_network l) $ split ! $
+      (element_out N.the_type 8 q m.networks i b (o + 4) 𝓛 tt blank_network l) $ split ! $
       rewrite ! 0 (λ (p : ℕ). ‵ (part_at N.the_row q (network_at m i) b p)) (place_is 18 (o + 4) i) refl $ frame ! $ frame ! $ done !
 
-  pub network-back : i < 8 → ent 𝓤 (sep 𝓤 (sem 𝓛 (part_at N.the_row q (network_at m i) b (network_spot o i))) KeptNetwork)
+  pub network_back : i < 8 → ent 𝓤 (sep 𝓤 (sem 𝓛 (part_at N.the_row q (network_at m i) b (network_spot o i))) KeptNetwork)
       (sem 𝓛 (part_at Mg.the_row q m b o))
   unfolding KeptNetwork
-  network-back l =
+  network_back l =
       qed 𝓛 (‵ (part_at N.the_row q (network_at m i) b (network_spot o i)) ∷ ‵ (Others N.the_type 8 q m.networks i b (o + 4)) ∷ raw (Rest 3) ∷ []) ∵
       rewrite ! 0 (λ (p : ℕ). ‵ (part_at N.the_row q (network_at m i) b p)) (sym (place_is 18 (o + 4) i)) refl $
-      use2 𝓛 (‵ (one_at q members 0 ((Mg.the_type).to m) b o 3)) (element-back N.the_type 8 q m.networks i b (o + 4) 𝓛 blank_network l) $
+      use2 𝓛 (‵ (one_at q members 0 ((Mg.the_type).to m) b o 3)) (element_back N.the_type 8 q m.networks i b (o + 4) 𝓛 blank_network l) $
       use2 𝓛 (‵ (part_at Mg.the_row q m b o)) (back m 3) $ done !
 
   -- what is kept while the record of slot i is out
   unfoldable pub KeptState : SProp 𝓤
   KeptState = sep 𝓤 (sem 𝓛 (Others T.the_type 8 q m.states i b (o + 148))) (Rest 4)
 
-  pub state-out : i < 8 → ent 𝓤 (sem 𝓛 (part_at Mg.the_row q m b o))
+  pub state_out : i < 8 → ent 𝓤 (sem 𝓛 (part_at Mg.the_row q m b o))
       (sep 𝓤 (sem 𝓛 (part_at T.the_row q (state_at m i) b (state_spot o i))) KeptState)
   unfolding KeptState
-  state-out l =
+  state_out l =
       qed 𝓛 (‵ (part_at Mg.the_row q m b o) ∷ []) ∵
       use1 𝓛 (‵ (one_at q members 0 ((Mg.the_type).to m) b o 4) ⊛ raw (Rest 4))
       (out 4) $ split ! $
       use1 𝓛 (‵ (part_at T.the_row q (state_at m i) b (place 14 (o + 148) i)) ⊛ ‵ (Others T.the_type 8 q m.states i b (o + 148)))
-      (element-out T.the_type 8 q m.states i b (o + 148) 𝓛 tt blank_state l) $ split ! $
+      (element_out T.the_type 8 q m.states i b (o + 148) 𝓛 tt blank_state l) $ split ! $
       rewrite ! 0 (λ (p : ℕ). ‵ (part_at T.the_row q (state_at m i) b p)) (place_is 14 (o + 148) i) refl $ frame ! $ frame ! $ done !
 
-  pub state-put : (s : State) → i < 8 → ent 𝓤 (sep 𝓤 (sem 𝓛 (part_at T.the_row q s b (state_spot o i))) KeptState)
+  pub state_put : (s : State) → i < 8 → ent 𝓤 (sep 𝓤 (sem 𝓛 (part_at T.the_row q s b (state_spot o i))) KeptState)
       (sem 𝓛 (part_at Mg.the_row q (with_state m i s) b o))
   unfolding KeptState
-  state-put s l =
+  state_put s l =
       qed 𝓛 (‵ (part_at T.the_row q s b (state_spot o i)) ∷ ‵ (Others T.the_type 8 q m.states i b (o + 148)) ∷ raw (Rest 4) ∷ []) ∵
       rewrite ! 0 (λ (p : ℕ). ‵ (part_at T.the_row q s b p)) (sym (place_is 14 (o + 148) i)) refl $
       use2 𝓛 (‵ (one_at q members 0 ((Mg.the_type).to (with_state m i s)) b o 4))
-      (element-put T.the_type 8 q m.states i b (o + 148) 𝓛 s l) $
+      (element_put T.the_type 8 q m.states i b (o + 148) 𝓛 s l) $
       use2 𝓛 (‵ (part_at Mg.the_row q (with_state m i s) b o)) (back (with_state m i s) 4) $ done !

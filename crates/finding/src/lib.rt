@@ -1,4 +1,6 @@
 // Which slot of a manager has an id. The manager is lent, and looked at where it stands: one network's settings are copied at a time.
+#![tactic(auto)]
+
 ghost use Rattle.std.specs.Prelude.{◌≡◌, ◌<◌};
 ghost use Rattle.slots.specs.Manager.{network_at};
 ghost use Rattle.slots.specs.Calls.{unknown, slot_of};
@@ -8,7 +10,7 @@ use settings::{Id, Network, Settings};
 use slots::{Answer, Manager, Slot, Stage};
 
 // A search so far: whether a network was found that has the id, and in which slot; the slot that comes next, and how many are searched.
-#[derive(Drop)]
+#[derive(Clone, Copy)]
 pub struct Search {
     pub found: bool,
     pub at: usize,

@@ -1,4 +1,6 @@
 // What an entry does to the settings: the tests of the order of fields, of ranges and of ids.
+#![tactic(auto)]
+
 ghost use Rattle.std.specs.Prelude.{◌≡◌, ◌<◌};
 ghost use Rattle.settings.specs.Settings.{networks_of};
 ghost use Rattle.entries.specs.Grammar.{begun, opens_with, is_above, takes_relation, on_relation, opens, takes_controller, takes_transceiver};

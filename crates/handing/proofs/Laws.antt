@@ -3,7 +3,7 @@ use Rattle.lists.proofs.Basics.{ℕ, ◌+◌, ◌≤◌, max, arith, eq-eqb, ◌
 use Rattle.lists.proofs.Basics.{length-append}
 use Rattle.lists.specs.Lists.{any, every}
 use Rattle.lists.proofs.Tests.{split}
-use Rattle.lists.proofs.Any.{every-cons, every_append, every-weaken, every_map}
+use Rattle.lists.proofs.Any.{every_cons, every_append, every_weaken, every_map}
 use Rattle.records.specs.declared.Record.{Record}
 use Rattle.records.specs.declared.PduMode.{PduMode}
 use Rattle.records.specs.declared.Mode.{Mode}
@@ -77,106 +77,106 @@ unfolding every any
 every_member [] = refl
 every_member (x ∷ l) =
     let more : (y : ℕ) → member y l ≡ true → member y (x ∷ l) ≡ true = λ y e. rw e (or-true (eqb x y)) in
-    let later = every-weaken (λ (y : ℕ). member y l) (λ (y : ℕ). member y (x ∷ l)) more l (every_member l) in
-    every-cons (λ (y : ℕ). member y (x ∷ l)) x l ∙ rw (eq-eqb x x refl, later) refl
+    let later = every_weaken (λ (y : ℕ). member y l) (λ (y : ℕ). member y (x ∷ l)) more l (every_member l) in
+    every_cons (λ (y : ℕ). member y (x ∷ l)) x l ∙ rw (eq-eqb x x refl, later) refl
 
 module _ (n : Network) where
   -- a record for each id of a list, whose own ids these are
-  ids-own : (f : ℕ → Record) (l : List ℕ) → ((x : ℕ) → own_record n (f x) ≡ member x l) → every (own_record n) (map f l) ≡ true
-  ids-own f l h =
+  ids_own : (f : ℕ → Record) (l : List ℕ) → ((x : ℕ) → own_record n (f x) ≡ member x l) → every (own_record n) (map f l) ≡ true
+  ids_own f l h =
       every_map (own_record n) f l
-      ∙ every-weaken (λ (x : ℕ). member x l) (λ (x : ℕ). own_record n (f x)) (λ (x : ℕ) (e : member x l ≡ true). h x ∙ e) l (every_member l)
+      ∙ every_weaken (λ (x : ℕ). member x l) (λ (x : ℕ). own_record n (f x)) (λ (x : ℕ) (e : member x l ≡ true). h x ∙ e) l (every_member l)
 
-  round-names : (round : Round) (x : ℕ) → own_record n (round_record round x) ≡ member x (controllers_of n)
+  round_names : (round : Round) (x : ℕ) → own_record n (round_record round x) ≡ member x (controllers_of n)
   unfolding own_record targets_of any
-  round-names (Round.Request mode) x = refl
-  round-names (Round.Pdu mode) x = refl
+  round_names (Round.Request mode) x = refl
+  round_names (Round.Pdu mode) x = refl
 
-  round-own : (round : Round) → every (own_record n) (map (round_record round) (controllers_of n)) ≡ true
-  round-own round = ids-own (round_record round) (controllers_of n) (round-names round)
+  round_own : (round : Round) → every (own_record n) (map (round_record round) (controllers_of n)) ≡ true
+  round_own round = ids_own (round_record round) (controllers_of n) (round_names round)
 
-  errand-names : (errand : Errand) (x : ℕ) → own_record n (errand_record errand x) ≡ member x (transceivers_of n)
+  errand_names : (errand : Errand) (x : ℕ) → own_record n (errand_record errand x) ≡ member x (transceivers_of n)
   unfolding own_record targets_of any
-  errand-names (Errand.Mode mode) x = refl
-  errand-names Errand.Clear x = refl
-  errand-names Errand.Check x = refl
+  errand_names (Errand.Mode mode) x = refl
+  errand_names Errand.Clear x = refl
+  errand_names Errand.Check x = refl
 
-  errand-own : (errand : Errand) → every (own_record n) (map (errand_record errand) (transceivers_of n)) ≡ true
-  errand-own errand = ids-own (errand_record errand) (transceivers_of n) (errand-names errand)
+  errand_own : (errand : Errand) → every (own_record n) (map (errand_record errand) (transceivers_of n)) ≡ true
+  errand_own errand = ids_own (errand_record errand) (transceivers_of n) (errand_names errand)
 
-  none-own : every (own_record n) [] ≡ true
+  none_own : every (own_record n) [] ≡ true
   unfolding every any
-  none-own = refl
+  none_own = refl
 
   -- a record that names the handle, before others
-  handle-own : (r : Record) (l : List Record) →
+  handle_own : (r : Record) (l : List Record) →
       own_record n r ≡ member n.handle (handles_of n) → every (own_record n) l ≡ true → every (own_record n) (r ∷ l) ≡ true
   unfolding any
-  handle-own r l h e = every-cons (own_record n) r l ∙ rw (h, eq-eqb n.handle n.handle refl, e) refl
+  handle_own r l h e = every_cons (own_record n) r l ∙ rw (h, eq-eqb n.handle n.handle refl, e) refl
 
   both_own : (l m : List Record) → every (own_record n) l ≡ true → every (own_record n) m ≡ true → every (own_record n) (l ++ m) ≡ true
   both_own l m e f = every_append (own_record n) l m ∙ rw (e, f) refl
 
-  requests-own : (ask : Ask) → every (own_record n) (requests ask n) ≡ true
+  requests_own : (ask : Ask) → every (own_record n) (requests ask n) ≡ true
   unfolding requests
-  requests-own Ask.Nothing = none-own
-  requests-own (Ask.Controllers mode) = round-own (Round.Request mode)
-  requests-own (Ask.Transceiver mode) = errand-own (Errand.Mode mode)
-  requests-own Ask.ClearWake = errand-own Errand.Clear
-  requests-own Ask.CheckWake = errand-own Errand.Check
+  requests_own Ask.Nothing = none_own
+  requests_own (Ask.Controllers mode) = round_own (Round.Request mode)
+  requests_own (Ask.Transceiver mode) = errand_own (Errand.Mode mode)
+  requests_own Ask.ClearWake = errand_own Errand.Clear
+  requests_own Ask.CheckWake = errand_own Errand.Check
 
-  entering-own : (pdu : PduMode) (mode : Mode) (notice : Notice) → every (own_record n) (entering n pdu mode notice) ≡ true
+  entering_own : (pdu : PduMode) (mode : Mode) (notice : Notice) → every (own_record n) (entering n pdu mode notice) ≡ true
   unfolding entering own_record targets_of any
-  entering-own pdu mode notice = both_own _ _ (round-own (Round.Pdu pdu)) (handle-own _ _ refl (handle-own _ _ refl none-own))
+  entering_own pdu mode notice = both_own _ _ (round_own (Round.Pdu pdu)) (handle_own _ _ refl (handle_own _ _ refl none_own))
 
-  notices-own : (told : Mode) → every (own_record n) (down_notices n.handle told) ≡ true
+  notices_own : (told : Mode) → every (own_record n) (down_notices n.handle told) ≡ true
   unfolding down_notices own_record targets_of any
-  notices-own Mode.No = handle-own _ _ refl none-own
-  notices-own Mode.Silent = handle-own _ _ refl none-own
-  notices-own Mode.Full = handle-own _ _ refl (handle-own _ _ refl none-own)
+  notices_own Mode.No = handle_own _ _ refl none_own
+  notices_own Mode.Silent = handle_own _ _ refl none_own
+  notices_own Mode.Full = handle_own _ _ refl (handle_own _ _ refl none_own)
 
   -- every record of a move names the network's own ids
-  pub move-own : (step : Step) (told : Mode) (m : Move) → every (own_record n) (move_records n step told m) ≡ true
+  pub move_own : (step : Step) (told : Mode) (m : Move) → every (own_record n) (move_records n step told m) ≡ true
   unfolding move_records entering_full entering_silent going_down own_record targets_of any
-  move-own step told Stay = none-own
-  move-own step told AskAgain = requests-own (asks_for step)
-  move-own step told (Count next) = none-own
-  move-own step told EnterFull = entering-own PduMode.Online Mode.Full Notice.Full
-  move-own step told EnterSilent = entering-own PduMode.TxOffline Mode.Silent Notice.Silent
-  move-own step told Pass = handle-own _ _ refl none-own
-  move-own step told Wait = round-own (Round.Pdu PduMode.TxOffline)
-  move-own step told GoDown = both_own _ _ (notices-own told) (requests-own (asks_for (first_down n.partial)))
-  move-own step told EnterNoCommunication = handle-own _ _ refl none-own
-  move-own step told (Enter next) = requests-own (asks_for next)
+  move_own step told Stay = none_own
+  move_own step told AskAgain = requests_own (asks_for step)
+  move_own step told (Count next) = none_own
+  move_own step told EnterFull = entering_own PduMode.Online Mode.Full Notice.Full
+  move_own step told EnterSilent = entering_own PduMode.TxOffline Mode.Silent Notice.Silent
+  move_own step told Pass = handle_own _ _ refl none_own
+  move_own step told Wait = round_own (Round.Pdu PduMode.TxOffline)
+  move_own step told GoDown = both_own _ _ (notices_own told) (requests_own (asks_for (first_down n.partial)))
+  move_own step told EnterNoCommunication = handle_own _ _ refl none_own
+  move_own step told (Enter next) = requests_own (asks_for next)
 
   -- and so does every record of a recovery that begins
-  pub recovery-own : every (own_record n) (recovery n.handle) ≡ true
+  pub recovery_own : every (own_record n) (recovery n.handle) ≡ true
   unfolding recovery own_record targets_of any
-  recovery-own = handle-own _ _ refl (handle-own _ _ refl (handle-own _ _ refl none-own))
+  recovery_own = handle_own _ _ refl (handle_own _ _ refl (handle_own _ _ refl none_own))
 
   -- and the one of a reset
-  pub reset-own : every (own_record n) (reset n.handle) ≡ true
+  pub reset_own : every (own_record n) (reset n.handle) ≡ true
   unfolding reset own_record targets_of any
-  reset-own = handle-own _ _ refl none-own
+  reset_own = handle_own _ _ refl none_own
 
 -- ---- listening
 module _ (n : Network) (step : Step) where
   -- each record of it names the network's own ids
-  pub online-own : every (own_record n) (online_in n step) ≡ true
+  pub online_own : every (own_record n) (online_in n step) ≡ true
   unfolding online_in
-  online-own = split (λ (rs : List Record). every (own_record n) rs ≡ true) (is_online_step step) (λ _. round-own n (Round.Pdu online)) (λ _. none-own n)
+  online_own = split (λ (rs : List Record). every (own_record n) rs ≡ true) (is_online_step step) (λ _. round_own n (Round.Pdu online)) (λ _. none_own n)
 
   -- by the test that the code makes: room for it, and what is written
   module _ (x : Bool) (e : x ≡ is_online_step step) where
-    pub online-room : {b : List ℕ} {k : ℕ} → x ≡ true → Room b k (online_in n step) → Room b k (map (round_record (Round.Pdu online)) (controllers_of n))
+    pub online_room : {b : List ℕ} {k : ℕ} → x ≡ true → Room b k (online_in n step) → Room b k (map (round_record (Round.Pdu online)) (controllers_of n))
     unfolding online_in
-    online-room t room = rw (sym e ∙ t) at room
+    online_room t room = rw (sym e ∙ t) at room
 
-    pub online-wrote : {b b₁ : List ℕ} {k r : ℕ} → x ≡ true → Wrote b b₁ k r (map (round_record (Round.Pdu online)) (controllers_of n))
+    pub online_wrote : {b b₁ : List ℕ} {k r : ℕ} → x ≡ true → Wrote b b₁ k r (map (round_record (Round.Pdu online)) (controllers_of n))
         → Wrote b b₁ k r (online_in n step)
     unfolding online_in
-    online-wrote t w = rw (sym e ∙ t) w
+    online_wrote t w = rw (sym e ∙ t) w
 
-    pub online-quiet : (b : List ℕ) (k : ℕ) → x ≡ false → Wrote b b k k (online_in n step)
+    pub online_quiet : (b : List ℕ) (k : ℕ) → x ≡ false → Wrote b b k k (online_in n step)
     unfolding online_in
-    online-quiet b k f = rw (sym e ∙ f) (wrote_none b k)
+    online_quiet b k f = rw (sym e ∙ f) (wrote_none b k)

@@ -1,4 +1,6 @@
 // What a move of a network hands out, into the lent buffer.
+#![tactic(auto)]
+
 ghost use Rattle.std.specs.Prelude.{◌≡◌, map};
 ghost use Rattle.records.specs.Wrote.{Room, Wrote};
 ghost use Rattle.settings.specs.Settings.{controllers_of, listed};
@@ -11,14 +13,14 @@ use settings::{Network, Transceiver};
 use steps::{Ask, Move, Phase, Step};
 
 // A record for each controller of a network: a request, or its PDU mode.
-#[derive(Drop)]
+#[derive(Clone, Copy)]
 pub enum Round {
     Request(ControllerMode),
     Pdu(PduMode),
 }
 
 // A record for the transceiver of a network.
-#[derive(Drop)]
+#[derive(Clone, Copy)]
 pub enum Errand {
     Mode(TransceiverMode),
     Clear,

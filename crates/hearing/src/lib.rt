@@ -1,5 +1,7 @@
 // A message to a manager that is lent: the network is found, and its record is updated where it stands. What the network makes of the message is
 // worked out by value, from one record and the settings of one network; nothing here copies more than that.
+#![tactic(auto)]
+
 ghost use Rattle.std.specs.Prelude.{◌≡◌, ◌<◌};
 ghost use Rattle.slots.specs.Calls.{answer_of, call_of, outcome, Hears};
 ghost use Rattle.hearing.specs.Heard.{HeardIn, HeardAt};

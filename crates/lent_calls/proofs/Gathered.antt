@@ -18,12 +18,12 @@ summed_within most (m ∷ ns) zero (suc n) d h k = omega arith
 summed_within most (m ∷ ns) (suc i) (suc n) d h k = omega (arith, summed_within most ns i n d (omega arith) (omega arith))
 
 module _ (f : Network → State → List Record) where
-  records-none : (ss : List State) → gathered f [] ss ≡ []
+  records_none : (ss : List State) → gathered f [] ss ≡ []
   unfolding gathered
-  records-none ss = refl
+  records_none ss = refl
 
   pub gathered_none : (b : List ℕ) (ss : List State) → Wrote b b 0 0 (gathered f [] ss)
-  gathered_none b ss = rw (records-none ss) (wrote_none b 0)
+  gathered_none b ss = rw (records_none ss) (wrote_none b 0)
 
   records_suc : (ns : List Network) (ss : List State) (i : ℕ) (d : Network) (e : State) → i < length ns → i < length ss →
       gathered f (take (suc i) ns) ss ≡ gathered f (take i ns) ss ++ f (get_or ns i d) (get_or ss i e)
@@ -36,32 +36,32 @@ module _ (f : Network → State → List Record) where
       ∙ sym (append_assoc (f n s) (gathered f (take i ns) ss) (f (get_or ns i d) (get_or ss i e)))
 
   -- one turn of the loop, which has written what one network more hands out
-  pub gather-wrote : (ns : List Network) (ss : List State) (i : ℕ) (d : Network) (e : State) → i < length ns → i < length ss
+  pub gather_wrote : (ns : List Network) (ss : List State) (i : ℕ) (d : Network) (e : State) → i < length ns → i < length ss
       → {b b₁ b₂ : List ℕ} {r s : ℕ} → Wrote b b₁ 0 r (gathered f (take i ns) ss) → Wrote b₁ b₂ r s (f (get_or ns i d) (get_or ss i e))
       → Wrote b b₂ 0 s (gathered f (take (i + 1) ns) ss)
-  gather-wrote ns ss i d e h k w v = rw (add-one i, records_suc ns ss i d e h k) (wrote_then w v)
+  gather_wrote ns ss i d e h k w v = rw (add-one i, records_suc ns ss i d e h k) (wrote_then w v)
 
   -- where a network hands out at most so many
   module _ (most : Network → ℕ) (fits : (n : Network) (s : State) → length (f n s) ≤ most n) where
     -- all hand out no more than the sum of it
-    pub gathered-summed : (ns : List Network) (ss : List State) → length (gathered f ns ss) ≤ summed most ns
+    pub gathered_summed : (ns : List Network) (ss : List State) → length (gathered f ns ss) ≤ summed most ns
     unfolding gathered summed
-    gathered-summed [] ss = omega arith
-    gathered-summed (n ∷ ns) [] = omega arith
-    gathered-summed (n ∷ ns) (s ∷ ss) = omega (arith, length-append (f n s) (gathered f ns ss), fits n s, gathered-summed ns ss)
+    gathered_summed [] ss = omega arith
+    gathered_summed (n ∷ ns) [] = omega arith
+    gathered_summed (n ∷ ns) (s ∷ ss) = omega (arith, length-append (f n s) (gathered f ns ss), fits n s, gathered_summed ns ss)
 
     -- room for all is room for what the next one hands out, which is at most its number
-    pub gather-room : (ns : List Network) (ss : List State) (i : ℕ) (d : Network) → i < length ns
+    pub gather_room : (ns : List Network) (ss : List State) (i : ℕ) (d : Network) → i < length ns
         → {b b₁ : List ℕ} {r : ℕ} → Wrote b b₁ 0 r (gathered f (take i ns) ss) → (rs : List Record) → length rs ≤ most (get_or ns i d) → (n : ℕ) → i < n
         → 3 * summed most (take n ns) ≤ length b → Room b₁ r rs
-    gather-room ns ss i d h w rs few n g room =
+    gather_room ns ss i d h w rs few n g room =
         record {
           fits = omega (
             arith,
             room,
             w.count,
             wrote_length w,
-            gathered-summed (take i ns) ss,
+            gathered_summed (take i ns) ss,
             summed_within most ns i n d h g,
             few,
           );

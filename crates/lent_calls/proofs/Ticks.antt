@@ -22,7 +22,7 @@ use Rattle.network.specs.Moving.{tick_state, tick_records}
 use Rattle.network.specs.Rest.{rests_in}
 use Rattle.network.specs.BusOff.{hit_of, stall_of, hit_by, hit_records}
 use Rattle.network.specs.Parts.{Sight, sight_of, hit_part, part_of, records_of}
-use Rattle.network_ticks.proofs.Rest.{resting-stays, resting-hands-out-nothing}
+use Rattle.network_ticks.proofs.Rest.{resting_stays, resting_hands_out_nothing}
 use Rattle.slots.specs.declared.Stage.{Stage}
 use Rattle.slots.specs.declared.Answer.{Answer}
 use Rattle.slots.specs.declared.Gate.{Gate}
@@ -33,7 +33,7 @@ use Rattle.slots.specs.Manager.{networks_of, network_at, state_at, with_states, 
 use Rattle.slots.specs.Calls.{Call, by_stage, slot_of, settled, named, slot_outcome, gate_of, by_gate, gate_records, trouble_needs, all_ticked, outcome, by_rules}
 use Rattle.slots.specs.Calls.{slot_records, handed_out, buffer_with, Gives, SlotGives}
 use Rattle.slots.proofs.Each.{each_read, each_same}
-use Rattle.lent_calls.proofs.Gathered.{gathered-summed, gather-room, gather-wrote}
+use Rattle.lent_calls.proofs.Gathered.{gathered_summed, gather_room, gather_wrote}
 
 -- ---- how many a tick hands out at most
 -- no more than a network's share, of any network
@@ -52,20 +52,20 @@ module _ (ns : List Network) (ss now : List State) (i : ℕ) (d : Network) (e : 
   still : get_or now i e ≡ get_or ss i e
   still = ap (λ (l : List State). get_or l i e) q ∙ each_read tick_state ns ss i e
 
-  pub tick-room : (n : ℕ) → i < n → 3 * summed share (take n ns) ≤ length b → Room b₁ r (tick_records (get_or ns i d) (get_or now i e))
-  tick-room n g room = gather-room tick_records share tick_share ns ss i d h w (tick_records (get_or ns i d) (get_or now i e)) (tick_share _ _) n g room
+  pub tick_room : (n : ℕ) → i < n → 3 * summed share (take n ns) ≤ length b → Room b₁ r (tick_records (get_or ns i d) (get_or now i e))
+  tick_room n g room = gather_room tick_records share tick_share ns ss i d h w (tick_records (get_or ns i d) (get_or now i e)) (tick_share _ _) n g room
 
-  pub tick-wrote : {b₂ : List ℕ} {s : ℕ} →
+  pub tick_wrote : {b₂ : List ℕ} {s : ℕ} →
       Wrote b₁ b₂ r s (tick_records (get_or ns i d) (get_or now i e)) → Wrote b b₂ 0 s (gathered tick_records (take (i + 1) ns) ss)
-  tick-wrote v = gather-wrote tick_records ns ss i d e h k w (rw still at v)
+  tick_wrote v = gather_wrote tick_records ns ss i d e h k w (rw still at v)
 
   -- the network rests: its record is the one after a tick, and nothing is handed out
   module _ (o : rests_in (get_or now i e).step (get_or now i e).wanted ≡ true) where
-    pub rest-kept : now ≡ each tick_state (take (i + 1) ns) ss
-    rest-kept = each_same tick_state ns ss now i d e h k q (resting-stays (get_or ns i d) (get_or now i e) o)
+    pub rest_kept : now ≡ each tick_state (take (i + 1) ns) ss
+    rest_kept = each_same tick_state ns ss now i d e h k q (resting_stays (get_or ns i d) (get_or now i e) o)
 
-    pub rest-wrote : Wrote b b₁ 0 r (gathered tick_records (take (i + 1) ns) ss)
-    rest-wrote = tick-wrote (rw (resting-hands-out-nothing (get_or ns i d) (get_or now i e) o) (wrote_none b₁ r))
+    pub rest_wrote : Wrote b b₁ 0 r (gathered tick_records (take (i + 1) ns) ss)
+    rest_wrote = tick_wrote (rw (resting_hands_out_nothing (get_or ns i d) (get_or now i e) o) (wrote_none b₁ r))
 
 -- ---- the outcome
 -- from the front: so many records, and the buffer that has them
@@ -82,7 +82,7 @@ ticks_end m {b} {b₁} {k} now i e room q w =
     let t = take_min m.networks m.count i e in
     let rs = gathered tick_records (networks_of m) m.states in
     let v : Wrote b b₁ 0 k rs = rw t at w in
-    let few : 3 * length rs ≤ length b = omega (arith, room, gathered-summed tick_records share tick_share (networks_of m) m.states) in
+    let few : 3 * length rs ≤ length b = omega (arith, room, gathered_summed tick_records share tick_share (networks_of m) m.states) in
     let g = wrote_front rs v few in
     let p : now ≡ each tick_state (networks_of m) m.states = rw t at q in
     (rw (p, g.0), g.1)
@@ -96,25 +96,25 @@ heeded_with b rs listening h = heeded_front b rs listening h
 -- what the ticks of all networks hand out has room, and goes out
 module _ (m : Manager) (b : List ℕ) {b₁ : List ℕ} (o : Outcome) (p : o ≡ all_ticked m) (q : b₁ ≡ buffer_with b (gathered tick_records (networks_of m) m.states))
     (room : tick_needs m ≤ length b) where
-  made-fits : 3 * length (gathered tick_records (networks_of m) m.states) ≤ length b
+  made_fits : 3 * length (gathered tick_records (networks_of m) m.states) ≤ length b
   unfolding tick_needs
-  made-fits = omega (arith, room, gathered-summed tick_records share tick_share (networks_of m) m.states)
+  made_fits = omega (arith, room, gathered_summed tick_records share tick_share (networks_of m) m.states)
 
-  counts-made : o.count ≡ length (gathered tick_records (networks_of m) m.states)
+  counts_made : o.count ≡ length (gathered tick_records (networks_of m) m.states)
   unfolding all_ticked
-  counts-made = ap (λ (x : Outcome). x.count) p
+  counts_made = ap (λ (x : Outcome). x.count) p
 
-  pub ticks-fit : 3 * o.count ≤ length b₁
+  pub ticks_fit : 3 * o.count ≤ length b₁
   unfolding buffer_with
-  ticks-fit =
+  ticks_fit =
       let made = gathered tick_records (networks_of m) m.states in
-      omega (arith, counts-made, ap length q, length-append (bytes made) (drop (3 * length made) b), length_bytes made)
+      omega (arith, counts_made, ap length q, length-append (bytes made) (drop (3 * length made) b), length_bytes made)
 
-  pub ticks-heeded : {b₂ : List ℕ} → b₂ ≡ heeded b₁ o.count m.listening → b₂ ≡ buffer_with b (map (turned m.listening) (gathered tick_records (networks_of m) m.states))
-  ticks-heeded e =
+  pub ticks_heeded : {b₂ : List ℕ} → b₂ ≡ heeded b₁ o.count m.listening → b₂ ≡ buffer_with b (map (turned m.listening) (gathered tick_records (networks_of m) m.states))
+  ticks_heeded e =
       let made = gathered tick_records (networks_of m) m.states in
       e ∙ ap (λ (l : List ℕ). heeded l o.count m.listening) q
-      ∙ ap (λ (k : ℕ). heeded (buffer_with b made) k m.listening) counts-made ∙ heeded_with b made m.listening made-fits
+      ∙ ap (λ (k : ℕ). heeded (buffer_with b made) k m.listening) counts_made ∙ heeded_with b made m.listening made_fits
 
 -- ---- a call that is lent a buffer
 -- what it gives is a pair: the outcome, and the buffer with the records
@@ -167,17 +167,17 @@ slot_open m sight slot x y {b} {after} {r} p e g = subst (λ (z : Slot). SlotGiv
 -- where it goes on there is room
 pub open_roomy : (m : Manager) (room needs : ℕ) → gate_of m room needs ≡ Gate.Open → needs ≤ room
 unfolding gate_of
-open_roomy m room needs = by-stage m.stage
+open_roomy m room needs = by_stage_lem m.stage
   where
-    by-test : (short : Bool) → ltb room needs ≡ short → cond short (Gate.Refused Answer.TooShort) Gate.Open ≡ Gate.Open → needs ≤ room
-    by-test true t e = absurd (let z : ◌≡◌ {A = ℕ} 0 1 = cc in omega arith)
-    by-test false t e = ltb-false room needs t
+    by_test : (short : Bool) → ltb room needs ≡ short → cond short (Gate.Refused Answer.TooShort) Gate.Open ≡ Gate.Open → needs ≤ room
+    by_test true t e = absurd (let z : ◌≡◌ {A = ℕ} 0 1 = cc in omega arith)
+    by_test false t e = ltb-false room needs t
 
-    by-stage : (g : Stage) → by_stage g (Gate.Refused Answer.NotReady)
+    by_stage_lem : (g : Stage) → by_stage g (Gate.Refused Answer.NotReady)
         (Gate.Refused Answer.NotReady) (cond (ltb room needs) (Gate.Refused Answer.TooShort) Gate.Open) ≡ Gate.Open → needs ≤ room
-    by-stage Stage.Empty e = absurd (let z : ◌≡◌ {A = ℕ} 0 1 = cc in omega arith)
-    by-stage Stage.Loaded e = absurd (let z : ◌≡◌ {A = ℕ} 0 1 = cc in omega arith)
-    by-stage Stage.Started e = by-test (ltb room needs) refl e
+    by_stage_lem Stage.Empty e = absurd (let z : ◌≡◌ {A = ℕ} 0 1 = cc in omega arith)
+    by_stage_lem Stage.Loaded e = absurd (let z : ◌≡◌ {A = ℕ} 0 1 = cc in omega arith)
+    by_stage_lem Stage.Started e = by_test (ltb room needs) refl e
 
 -- ---- trouble
 -- what a bus_off_lem and a stall hand out has the room that its call needs

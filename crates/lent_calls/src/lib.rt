@@ -1,4 +1,6 @@
 // The manager's calls that are lent a buffer for what they hand out: the tick, and those by which trouble is reported.
+#![tactic(auto)]
+
 mod ticking;
 mod troubles;
 

@@ -1,4 +1,6 @@
 // The call by which the whole manager listens, or sends again.
+#![tactic(auto)]
+
 ghost use Rattle.std.specs.Prelude.{◌≡◌, [], map, ◌≤◌, length};
 ghost use Rattle.records.specs.Records.{turned};
 ghost use Rattle.records.specs.Wrote.{Wrote};

@@ -44,14 +44,14 @@ module _ {A : Type 0} (p : A → Bool) where
   any_append (x ∷ l) m = rw (any_append l m) (or_assoc (p x) (any p l) (any p m))
 
   -- none passes in the first list, and none in the second
-  pub any-append-left : (l m : List A) → any p (l ++ m) ≡ false → any p l ≡ false
-  any-append-left l m e = or_left (any p l) (any p m) (sym (any_append l m) ∙ e)
+  pub any_append_left : (l m : List A) → any p (l ++ m) ≡ false → any p l ≡ false
+  any_append_left l m e = or_left (any p l) (any p m) (sym (any_append l m) ∙ e)
 
-  pub any-append-right : (l m : List A) → any p (l ++ m) ≡ false → any p m ≡ false
-  any-append-right l m e = or_right (any p l) (any p m) (sym (any_append l m) ∙ e)
+  pub any_append_right : (l m : List A) → any p (l ++ m) ≡ false → any p m ≡ false
+  any_append_right l m e = or_right (any p l) (any p m) (sym (any_append l m) ∙ e)
 
-  pub any-append-none : (l m : List A) → any p l ≡ false → any p m ≡ false → any p (l ++ m) ≡ false
-  any-append-none l m e f = any_append l m ∙ rw (e, f) refl
+  pub any_append_none : (l m : List A) → any p l ≡ false → any p m ≡ false → any p (l ++ m) ≡ false
+  any_append_none l m e f = any_append l m ∙ rw (e, f) refl
 
   one_more : (l : List A) (i : ℕ) (d : A) → any p (take i l) ≡ false → p (get_or l i d) ≡ false → any p (take (suc i) l) ≡ false
   unfolding any
@@ -60,8 +60,8 @@ module _ {A : Type 0} (p : A → Bool) where
   one_more (x ∷ l) (suc i) d e f = rw (or_left (p x) _ e) (one_more l i d (or_right (p x) _ e) f)
 
   -- one element more that does not pass
-  pub any-more : (l : List A) (i : ℕ) (d : A) → any p (take i l) ≡ false → p (get_or l i d) ≡ false → any p (take (i + 1) l) ≡ false
-  any-more l i d e f = rw add-one (one_more l i d e f)
+  pub any_more : (l : List A) (i : ℕ) (d : A) → any p (take i l) ≡ false → p (get_or l i d) ≡ false → any p (take (i + 1) l) ≡ false
+  any_more l i d e f = rw add-one (one_more l i d e f)
 
   -- one that passes
   pub any_found : (l : List A) (i n : ℕ) (d : A) → i < n → i < length l → p (get_or l i d) ≡ true → any p (take n l) ≡ true
@@ -72,8 +72,8 @@ module _ {A : Type 0} (p : A → Bool) where
   any_found (x ∷ l) (suc i) (suc n) d h k f = or_second (p x) _ (any_found l i n d (omega arith) (omega arith) f)
 
   -- none passes among the first n, once as many have been seen as are there
-  pub any-end : (l : List A) (i n : ℕ) → i ≡ min n (length l) → any p (take i l) ≡ false → any p (take n l) ≡ false
-  any-end l i n h e = ap (any p) (sym (take_min l n i h)) ∙ e
+  pub any_end : (l : List A) (i n : ℕ) → i ≡ min n (length l) → any p (take i l) ≡ false → any p (take n l) ≡ false
+  any_end l i n h e = ap (any p) (sym (take_min l n i h)) ∙ e
 
   -- ---- first
   -- the first that passes, none having passed before it
@@ -89,11 +89,11 @@ module _ {A : Type 0} (p : A → Bool) where
   pub first_below : (l : List A) → any p l ≡ true → first p l < length l
   unfolding any first
   first_below [] e = absurd (let z : ◌≡◌ {A = ℕ} 0 1 = cc in omega arith)
-  first_below (x ∷ l) e = by-test (p x) e (first_below l)
+  first_below (x ∷ l) e = by_test (p x) e (first_below l)
     where
-      by-test : (b : Bool) → b || any p l ≡ true → (any p l ≡ true → first p l < length l) → cond b 0 (suc (first p l)) < length (x ∷ l)
-      by-test true f ih = omega arith
-      by-test false f ih = let h = ih f in omega arith
+      by_test : (b : Bool) → b || any p l ≡ true → (any p l ≡ true → first p l < length l) → cond b 0 (suc (first p l)) < length (x ∷ l)
+      by_test true f ih = omega arith
+      by_test false f ih = let h = ih f in omega arith
 
 -- ---- every
 module _ {A : Type 0} (p : A → Bool) where
@@ -102,13 +102,13 @@ module _ {A : Type 0} (p : A → Bool) where
   unfolding every
   every_true l e = rw e refl
 
-  pub every-false : (l : List A) → any (λ (x : A). not (p x)) l ≡ true → every p l ≡ false
+  pub every_false : (l : List A) → any (λ (x : A). not (p x)) l ≡ true → every p l ≡ false
   unfolding every
-  every-false l e = rw e refl
+  every_false l e = rw e refl
 
-  pub every-cons : (x : A) (l : List A) → every p (x ∷ l) ≡ p x && every p l
+  pub every_cons : (x : A) (l : List A) → every p (x ∷ l) ≡ p x && every p l
   unfolding every any
-  every-cons x l = not_not_or (p x) _
+  every_cons x l = not_not_or (p x) _
 
   pub every_append : (l m : List A) → every p (l ++ m) ≡ every p l && every p m
   unfolding every
@@ -117,17 +117,17 @@ module _ {A : Type 0} (p : A → Bool) where
       ap not (any_append fails l m) ∙ not_or (any fails l) (any fails m)
 
   -- another test that every element passes that passes this one
-  pub every-weaken : (q : A → Bool) → ((x : A) → p x ≡ true → q x ≡ true) → (l : List A) → every p l ≡ true → every q l ≡ true
+  pub every_weaken : (q : A → Bool) → ((x : A) → p x ≡ true → q x ≡ true) → (l : List A) → every p l ≡ true → every q l ≡ true
   unfolding every any
-  every-weaken q h [] e = refl
-  every-weaken q h (x ∷ l) e =
-      let f : p x && every p l ≡ true = sym (every-cons x l) ∙ e in
-      not_not_or (q x) _ ∙ rw (h x (and_both (p x) _ f).0, every-weaken q h l (and_both (p x) _ f).1) refl
+  every_weaken q h [] e = refl
+  every_weaken q h (x ∷ l) e =
+      let f : p x && every p l ≡ true = sym (every_cons x l) ∙ e in
+      not_not_or (q x) _ ∙ rw (h x (and_both (p x) _ f).0, every_weaken q h l (and_both (p x) _ f).1) refl
 
 pub every_map : {A B : Type 0} (p : B → Bool) (f : A → B) (l : List A) → every p (map f l) ≡ every (λ (x : A). p (f x)) l
 unfolding every any
 every_map p f [] = refl
-every_map {A} p f (x ∷ l) = every-cons p (f x) (map f l) ∙ rw (every_map p f l) (sym (every-cons (λ (y : A). p (f y)) x l))
+every_map {A} p f (x ∷ l) = every_cons p (f x) (map f l) ∙ rw (every_map p f l) (sym (every_cons (λ (y : A). p (f y)) x l))
 
 -- ---- lastly
 -- the last element of a list, and those before it
@@ -139,11 +139,11 @@ pub record Ending {A : Type 0} (p : A → Bool) (l : List A) : Type 0 where
 
 module _ {A : Type 0} (p : A → Bool) where
   -- the last one is the one that was added
-  pub lastly-snoc : (l : List A) (x : A) → lastly p (l ++ (x ∷ [])) ≡ p x
+  pub lastly_snoc : (l : List A) (x : A) → lastly p (l ++ (x ∷ [])) ≡ p x
   unfolding lastly
-  lastly-snoc [] x = refl
-  lastly-snoc (y ∷ []) x = refl
-  lastly-snoc (y ∷ z ∷ l) x = lastly-snoc (z ∷ l) x
+  lastly_snoc [] x = refl
+  lastly_snoc (y ∷ []) x = refl
+  lastly_snoc (y ∷ z ∷ l) x = lastly_snoc (z ∷ l) x
 
   -- where the last one passes, the list ends in one that does
   pub ending : (l : List A) → lastly p l ≡ true → Ending p l
@@ -155,30 +155,30 @@ module _ {A : Type 0} (p : A → Bool) where
       record { before = x ∷ rest.before; end = rest.end; parts = ap (λ (k : List A). x ∷ k) rest.parts; passes = rest.passes }
 
   -- the last of the first n, by its place
-  pub lastly-take : (l : List A) (n k : ℕ) (d : A) → length (take n l) ≡ suc k → lastly p (take n l) ≡ p (get_or l k d)
+  pub lastly_take : (l : List A) (n k : ℕ) (d : A) → length (take n l) ≡ suc k → lastly p (take n l) ≡ p (get_or l k d)
   unfolding lastly
-  lastly-take l zero k d e = absurd (omega arith)
-  lastly-take [] (suc n) k d e = absurd (omega arith)
-  lastly-take (x ∷ l) (suc zero) k d e = let z : k ≡ 0 = omega arith in rw z refl
-  lastly-take (x ∷ []) (suc (suc n)) k d e = let z : k ≡ 0 = omega arith in rw z refl
-  lastly-take (x ∷ y ∷ l) (suc (suc n)) zero d e = absurd (omega arith)
-  lastly-take (x ∷ y ∷ l) (suc (suc n)) (suc k) d e = lastly-take (y ∷ l) (suc n) k d (omega arith)
+  lastly_take l zero k d e = absurd (omega arith)
+  lastly_take [] (suc n) k d e = absurd (omega arith)
+  lastly_take (x ∷ l) (suc zero) k d e = let z : k ≡ 0 = omega arith in rw z refl
+  lastly_take (x ∷ []) (suc (suc n)) k d e = let z : k ≡ 0 = omega arith in rw z refl
+  lastly_take (x ∷ y ∷ l) (suc (suc n)) zero d e = absurd (omega arith)
+  lastly_take (x ∷ y ∷ l) (suc (suc n)) (suc k) d e = lastly_take (y ∷ l) (suc n) k d (omega arith)
 
 -- where some element passes, the first that does passes
 pub first_passes : {A : Type 0} (p : A → Bool) (l : List A) (d : A) → any p l ≡ true → p (get_or l (first p l) d) ≡ true
 unfolding any first
 first_passes p [] d e = absurd (false≢true e)
-first_passes p (x ∷ l) d e = by-test (p x) refl e (first_passes p l d)
+first_passes p (x ∷ l) d e = by_test (p x) refl e (first_passes p l d)
   where
-    by-test : (b : Bool) →
+    by_test : (b : Bool) →
         p x ≡ b → b || any p l ≡ true → (any p l ≡ true → p (get_or l (first p l) d) ≡ true) → p (get_or (x ∷ l) (cond b 0 (suc (first p l))) d) ≡ true
-    by-test true q f next = q
-    by-test false q f next = next f
+    by_test true q f next = q
+    by_test false q f next = next f
 
 -- where every one of the first n passes, so does each of them
 pub every_at : {A : Type 0} (p : A → Bool) (l : List A) (i n : ℕ) (d : A) → every p (take n l) ≡ true → i < n → i < length l → p (get_or l i d) ≡ true
-every_at {A} p l i n d e h k = by-test (p (get_or l i d)) refl
+every_at {A} p l i n d e h k = by_test (p (get_or l i d)) refl
   where
-    by-test : (b : Bool) → p (get_or l i d) ≡ b → b ≡ true
-    by-test true q = refl
-    by-test false q = absurd (false≢true (sym (every-false p (take n l) (any_found (λ (x : A). not (p x)) l i n d h k (ap not q))) ∙ e))
+    by_test : (b : Bool) → p (get_or l i d) ≡ b → b ≡ true
+    by_test true q = refl
+    by_test false q = absurd (false≢true (sym (every_false p (take n l) (any_found (λ (x : A). not (p x)) l i n d h k (ap not q))) ∙ e))

@@ -13,8 +13,8 @@ module _ {A : Type 0} where
   pub take_more : (l : List A) (i : ℕ) (d : A) → i < length l → take (i + 1) l ≡ take i l ++ (get_or l i d ∷ [])
   take_more l i d h = rw add-one (take-suc l i d h)
 
-  pub take-set-more : (l : List A) (i : ℕ) (a : A) → i < length l → take (i + 1) (set l i a) ≡ take i l ++ (a ∷ [])
-  take-set-more l i a h = rw add-one (take-suc-set l i a h)
+  pub take_set_more : (l : List A) (i : ℕ) (a : A) → i < length l → take (i + 1) (set l i a) ≡ take i l ++ (a ∷ [])
+  take_set_more l i a h = rw add-one (take-suc-set l i a h)
 
   -- an element of the list is the same with whatever default
   pub get_d_any : (l : List A) (i : ℕ) (d e : A) → i < length l → get_or l i d ≡ get_or l i e
@@ -23,11 +23,11 @@ module _ {A : Type 0} where
   get_d_any (x ∷ l) (suc i) d e h = get_d_any l i d e (omega arith)
 
   -- ---- how many there are among the first n
-  pub count-below : (l : List A) (k n : ℕ) → length l ≡ k → n < k → n ≡ length (take n l)
-  count-below l k n e h = sym (length-take-le n l (omega arith))
+  pub count_below : (l : List A) (k n : ℕ) → length l ≡ k → n < k → n ≡ length (take n l)
+  count_below l k n e h = sym (length-take-le n l (omega arith))
 
-  pub count-above : (l : List A) (k n : ℕ) → length l ≡ k → k ≤ n → k ≡ length (take n l)
-  count-above l k n e h = sym (ap length (take_all n l (omega arith)) ∙ e)
+  pub count_above : (l : List A) (k n : ℕ) → length l ≡ k → k ≤ n → k ≡ length (take n l)
+  count_above l k n e h = sym (ap length (take_all n l (omega arith)) ∙ e)
 
   again : (l : List A) (k : ℕ) → take (length (take k l)) l ≡ take k l
   again [] zero = refl
@@ -45,8 +45,8 @@ module _ {A : Type 0} where
 
   -- ---- padded
   -- one more element, where the filling begins
-  pub padded-set : (n : ℕ) (d a : A) (l : List A) → length l < n → set (padded n d l) (length l) a ≡ padded n d (l ++ (a ∷ []))
-  padded-set n d a l h =
+  pub padded_set : (n : ℕ) (d a : A) (l : List A) → length l < n → set (padded n d l) (length l) a ≡ padded n d (l ++ (a ∷ []))
+  padded_set n d a l h =
       let e : n - length l ≡ suc (n - (length l + 1)) = omega arith in
       ap (λ (k : ℕ). set (l ++ replicate k d) (length l) a) e
       ∙ set-append_seam l d (replicate (n - (length l + 1)) d) a
@@ -54,11 +54,11 @@ module _ {A : Type 0} where
       ∙ ap (λ (k : ℕ). (l ++ (a ∷ [])) ++ replicate (n - k) d) (sym (length-append l (a ∷ [])))
 
   -- the last element before the filling, and another in its place
-  pub padded-last : (n : ℕ) (d x e : A) (l : List A) → get_or (padded n d (l ++ (x ∷ []))) (length l) e ≡ x
-  padded-last n d x e l = rw (append_snoc l x (replicate (n - length (l ++ (x ∷ []))) d)) (get_or-append_seam l x _ e)
+  pub padded_last : (n : ℕ) (d x e : A) (l : List A) → get_or (padded n d (l ++ (x ∷ []))) (length l) e ≡ x
+  padded_last n d x e l = rw (append_snoc l x (replicate (n - length (l ++ (x ∷ []))) d)) (get_or-append_seam l x _ e)
 
-  pub padded-set-last : (n : ℕ) (d x a : A) (l : List A) → set (padded n d (l ++ (x ∷ []))) (length l) a ≡ padded n d (l ++ (a ∷ []))
-  padded-set-last n d x a l =
+  pub padded_set_last : (n : ℕ) (d x a : A) (l : List A) → set (padded n d (l ++ (x ∷ []))) (length l) a ≡ padded n d (l ++ (a ∷ []))
+  padded_set_last n d x a l =
       let same : length (l ++ (x ∷ [])) ≡ length (l ++ (a ∷ [])) = length-append l (x ∷ []) ∙ sym (length-append l (a ∷ [])) in
       let filling : List A = replicate (n - length (l ++ (x ∷ []))) d in
       ap (λ (k : List A). set k (length l) a) (append_snoc l x filling)
@@ -67,18 +67,18 @@ module _ {A : Type 0} where
       ∙ ap (λ (k : ℕ). (l ++ (a ∷ [])) ++ replicate (n - k) d) same
 
   -- where a list is its first k elements, filled up, it has n elements, and there are k of these
-  pub padded-length : (n : ℕ) (d : A) (l : List A) (k : ℕ) → k ≤ n → l ≡ padded n d (take k l) → length l ≡ n
-  padded-length n d l k h e =
+  pub padded_length : (n : ℕ) (d : A) (l : List A) (k : ℕ) → k ≤ n → l ≡ padded n d (take k l) → length l ≡ n
+  padded_length n d l k h e =
       let f = length-take k l in
       omega (arith, f, ap length e ∙ length-append (take k l) (replicate (n - length (take k l)) d), length-replicate (n - length (take k l)) d)
 
-  pub padded-count : (n : ℕ) (d : A) (l : List A) (k : ℕ) → k ≤ n → l ≡ padded n d (take k l) → length (take k l) ≡ k
-  padded-count n d l k h e = length-take-le k l (omega (arith, padded-length n d l k h e))
+  pub padded_count : (n : ℕ) (d : A) (l : List A) (k : ℕ) → k ≤ n → l ≡ padded n d (take k l) → length (take k l) ≡ k
+  padded_count n d l k h e = length-take-le k l (omega (arith, padded_length n d l k h e))
 
   -- a store among the first k keeps the filling
-  pub padded-store : (n : ℕ) (d a : A) (l : List A) (k i : ℕ) →
+  pub padded_store : (n : ℕ) (d a : A) (l : List A) (k i : ℕ) →
       l ≡ padded n d (take k l) → i < length (take k l) → set l i a ≡ padded n d (take k (set l i a))
-  padded-store n d a l k i e h =
+  padded_store n d a l k i e h =
       let j : i < k = let t = length-take k l in omega arith in
       let t : take k (set l i a) ≡ set (take k l) i a = take-set-lt k l i a j in
       ap (λ (m : List A). set m i a) e

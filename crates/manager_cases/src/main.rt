@@ -1,5 +1,7 @@
 // Runs stored calls of the manager and writes what each gives: answer, count, mode, place, and the front of its lent buffer.
 // Input: for each call one byte that says which, and its arguments. An unknown or cut call ends the program.
+#![tactic(auto)]
+
 use libc::STDIN_FILENO;
 use manager::{Manager, Outcome};
 

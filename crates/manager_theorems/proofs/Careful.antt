@@ -13,7 +13,7 @@ use Rattle.slots.specs.declared.Answer.{Answer}
 use Rattle.slots.specs.declared.Manager.{Manager}
 use Rattle.slots.specs.declared.Outcome.{Outcome}
 use Rattle.slots.specs.Manager.{answer_number, settings_of, blank_state, refused}
-use Rattle.slots.specs.Calls.{Call, listen, by_stage, slot_of, writing_of, gate_of, by_gate, all_ticked, listened, by_value, outcome, by_rules, handed_out}
+use Rattle.slots.specs.Calls.{Call, listen, by_stage, slot_of, writing_of, gate_of, by_gate, all_ticked, listened, by_value_lem, outcome, by_rules, handed_out}
 use Rattle.slots.specs.Calls.{buffer_with, written_into, Gives, Writes}
 use Rattle.calls.specs.Histories.{is_accepted, entry_of, to, address_of}
 use Rattle.calls.proofs.ByCall.{ByCall, by_call}
@@ -22,9 +22,9 @@ use Rattle.slots.specs.Manager.{listen_needs}
 use Rattle.manager_theorems.specs.Careful.{Careful, LeavesOthers, OnlyListens}
 
 module _ (m : Manager) where
-  rules-careful : (c : Call) → Careful m (outcome m c) (by_rules m c)
+  rules_careful : (c : Call) → Careful m (outcome m c) (by_rules m c)
   unfolding all_ticked listened
-  rules-careful = by_call m (λ c. Careful m) (record {
+  rules_careful = by_call m (λ c. Careful m) (record {
     refuses = λ c a r f e. record { manager = refl; count = refl; mode = refl; records = refl };
     declines = λ c id sight i a n f d r e. record { manager = refl; count = refl; mode = refl; records = refl };
     takes = λ c id sight i n f t k e. absurd (true≢false e);
@@ -38,10 +38,10 @@ module _ (m : Manager) where
   })
 
   -- a refused call changes nothing and hands out nothing
-  pub refused-changes-nothing : (c : Call) → Careful m (outcome m c) (handed_out m c)
+  pub refused_changes_nothing : (c : Call) → Careful m (outcome m c) (handed_out m c)
   unfolding handed_out
-  refused-changes-nothing c e =
-      let r = rules-careful c e in
+  refused_changes_nothing c e =
+      let r = rules_careful c e in
       record {
         manager = r.manager;
         count = r.count;
@@ -50,36 +50,36 @@ module _ (m : Manager) where
       }
 
   -- nor a byte of its lent buffer
-  pub refused-untouched : (c : Call) (b : List ℕ) (r : Outcome) (after : List ℕ) → Gives m c b r after → is_accepted r.answer ≡ false → after ≡ b
+  pub refused_untouched : (c : Call) (b : List ℕ) (r : Outcome) (after : List ℕ) → Gives m c b r after → is_accepted r.answer ≡ false → after ≡ b
   unfolding buffer_with bytes
-  refused-untouched c b r after g e =
-      let none = (refused-changes-nothing c (ap (λ (o : Outcome). is_accepted o.answer) (sym g.result) ∙ e)).records in
+  refused_untouched c b r after g e =
+      let none = (refused_changes_nothing c (ap (λ (o : Outcome). is_accepted o.answer) (sym g.result) ∙ e)).records in
       g.buffer ∙ ap (buffer_with b) none
 
-  pub refused-unwritten : (b : List ℕ) (r : Outcome) (after : List ℕ) → Writes m b r after → is_accepted r.answer ≡ false → after ≡ b
+  pub refused_unwritten : (b : List ℕ) (r : Outcome) (after : List ℕ) → Writes m b r after → is_accepted r.answer ≡ false → after ≡ b
   unfolding outcome written_into writing_of buffer_after
-  refused-unwritten b r after w e = w.buffer ∙ by-stage m.stage (ap (λ (o : Outcome). is_accepted o.answer) (sym w.result) ∙ e)
+  refused_unwritten b r after w e = w.buffer ∙ by_stage_lem m.stage (ap (λ (o : Outcome). is_accepted o.answer) (sym w.result) ∙ e)
     where
-      by-room : (fits : Bool) → leb (length (encode (settings_of m))) (length b) ≡ fits →
+      by_room : (fits : Bool) → leb (length (encode (settings_of m))) (length b) ≡ fits →
           is_accepted (writing_of m (length b)).answer ≡ false → buffer_after (settings_of m) b ≡ b
-      by-room true f e = absurd (true≢false (rw f at e))
-      by-room false f e = rw f refl
+      by_room true f e = absurd (true≢false (rw f at e))
+      by_room false f e = rw f refl
 
-      by-stage : (g : Stage) → is_accepted (by_stage g (refused m Answer.NotReady) (writing_of m (length b)) (writing_of m (length b))).answer ≡ false
+      by_stage_lem : (g : Stage) → is_accepted (by_stage g (refused m Answer.NotReady) (writing_of m (length b)) (writing_of m (length b))).answer ≡ false
           → by_stage g b (buffer_after (settings_of m) b) (buffer_after (settings_of m) b) ≡ b
-      by-stage Stage.Empty e = refl
-      by-stage Stage.Loaded e = by-room _ refl e
-      by-stage Stage.Started e = by-room _ refl e
+      by_stage_lem Stage.Empty e = refl
+      by_stage_lem Stage.Loaded e = by_room _ refl e
+      by_stage_lem Stage.Started e = by_room _ refl e
 
   -- whom a call names goes by the number of its answer
   abbrev NamedLeaves : Call → Outcome → List Record → Type 0
   NamedLeaves c o rs = (id : Id) (sight : Sight) → address_of (answer_number o.answer) c ≡ to id sight → LeavesOthers m (slot_of m id) o
 
   -- a call that names an id leaves all slots alone but the one that it names
-  pub leaves-others : (c : Call) (id : Id) (sight : Sight) →
+  pub leaves_others : (c : Call) (id : Id) (sight : Sight) →
       address_of (entry_of m c).number c ≡ to id sight → LeavesOthers m (slot_of m id) (outcome m c)
   unfolding all_ticked
-  leaves-others = by_call m NamedLeaves (record {
+  leaves_others = by_call m NamedLeaves (record {
     refuses = λ c a r f id sight e. record { networks = refl; count = refl; others = λ j n. refl };
     declines = λ c id sight i a n f d r id' sight' e. record { networks = refl; count = refl; others = λ j n. refl };
     takes = λ c id sight i n f t k id' sight' e. record {
@@ -101,14 +101,14 @@ module _ (m : Manager) where
       stored c id sight id' sight' i j p q s same = let z : id ≡ id' = cc in ap (slot_of m) (sym z) ∙ s ∙ ap Slot.At (sym same)
 
   -- a call to listen changes no network's record, whatever it is answered
-  pub only-listens : (value room : ℕ) → OnlyListens m (outcome m (listen value room))
+  pub only_listens : (value room : ℕ) → OnlyListens m (outcome m (listen value room))
   unfolding outcome listened
-  only-listens value room = by-gate (gate_of m room (listen_needs m))
+  only_listens value room = by_gate_lem (gate_of m room (listen_needs m))
     where
       by_value_lem : (above : Bool) → OnlyListens m (cond above (refused m Answer.OutOfRange) (listened m (eqb 1 value)))
       by_value_lem true = record { stage = refl; settings = refl; states = refl }
       by_value_lem false = record { stage = refl; settings = refl; states = refl }
 
-      by-gate : (gate : Gate) → OnlyListens m (by_gate m gate (by_value value (refused m Answer.OutOfRange) (listened m)))
-      by-gate (Gate.Refused answer) = record { stage = refl; settings = refl; states = refl }
-      by-gate Gate.Open = by_value_lem (ltb 1 value)
+      by_gate_lem : (gate : Gate) → OnlyListens m (by_gate m gate (by_value_lem value (refused m Answer.OutOfRange) (listened m)))
+      by_gate_lem (Gate.Refused answer) = record { stage = refl; settings = refl; states = refl }
+      by_gate_lem Gate.Open = by_value_lem (ltb 1 value)

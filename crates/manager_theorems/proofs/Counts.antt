@@ -1,7 +1,7 @@
 -- R16, R24: a tick needs three bytes for each controller of all networks and six for each network, a call to listen the three alone: never more than
 -- 144 and 96.
 use Rattle.lists.proofs.Basics.{◌+◌, ◌*◌, ◌≤◌, arith, ◌≡◌, refl, List, [], ◌∷◌, length, length-take}
-use Rattle.lists.proofs.Parts.{padded-length}
+use Rattle.lists.proofs.Parts.{padded_length}
 use Rattle.settings.specs.declared.Network.{Network}
 use Rattle.settings.specs.Settings.{controllers_of}
 use Rattle.settings.specs.Good.{InRange, EachInRange}
@@ -12,7 +12,7 @@ use Rattle.manager_theorems.specs.Careful.{Sound, all_controllers}
 -- a network in range has a controller
 some_controller : (n : Network) → InRange n → 1 ≤ length (controllers_of n)
 some_controller n g =
-    let full = padded-length 4 0 n.controllers n.count g.few_controllers g.blank_slots in
+    let full = padded_length 4 0 n.controllers n.count g.few_controllers g.blank_slots in
     omega (arith, length-take n.count n.controllers, full, g.some_controller)
 
 shares_paper : (ns : List Network) → EachInRange ns → summed share ns ≡ all_controllers ns + 2 * length ns

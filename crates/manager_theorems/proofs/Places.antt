@@ -17,17 +17,17 @@ module _ (m : Manager) (bytes : List ℕ) (fault : Fault) where
   abbrev Pointing : Outcome → Type 0
   Pointing o = o.answer ≡ Answer.Sheet fault → Points fault bytes o.place
 
-  by-verdict : (a : Verdict) → (decode bytes).answer ≡ a → Pointing (after_reading m (decode bytes) a)
-  by-verdict Verdict.Accepted e x = absurd (let z : ◌≡◌ {A = ℕ} 0 1 = cc in omega arith)
-  by-verdict (Verdict.Refused other) e x =
+  by_verdict : (a : Verdict) → (decode bytes).answer ≡ a → Pointing (after_reading m (decode bytes) a)
+  by_verdict Verdict.Accepted e x = absurd (let z : ◌≡◌ {A = ℕ} 0 1 = cc in omega arith)
+  by_verdict (Verdict.Refused other) e x =
       let same : other ≡ fault = cc in subst (λ (f : Fault). Points f bytes (decode bytes).place) same (refused_points bytes other e)
 
-  by-stage : (stage : Stage) → Pointing (by_stage stage (read_into m bytes) (read_into m bytes) (refused m Answer.Running))
+  by_stage_lem : (stage : Stage) → Pointing (by_stage stage (read_into m bytes) (read_into m bytes) (refused m Answer.Running))
   unfolding read_into
-  by-stage Stage.Empty = by-verdict (decode bytes).answer refl
-  by-stage Stage.Loaded = by-verdict (decode bytes).answer refl
-  by-stage Stage.Started = λ x. absurd (let z : ◌≡◌ {A = ℕ} 0 1 = cc in omega arith)
+  by_stage_lem Stage.Empty = by_verdict (decode bytes).answer refl
+  by_stage_lem Stage.Loaded = by_verdict (decode bytes).answer refl
+  by_stage_lem Stage.Started = λ x. absurd (let z : ◌≡◌ {A = ℕ} 0 1 = cc in omega arith)
 
-  pub read-points : (outcome m (read bytes)).answer ≡ Answer.Sheet fault → Points fault bytes (outcome m (read bytes)).place
+  pub read_points : (outcome m (read bytes)).answer ≡ Answer.Sheet fault → Points fault bytes (outcome m (read bytes)).place
   unfolding outcome
-  read-points = by-stage m.stage
+  read_points = by_stage_lem m.stage

@@ -17,15 +17,15 @@ use Rattle.calls.proofs.ByCall.{Found}
 
 module _ (m : Manager) where
   -- the number of the answer is that of the network's reply
-  settled-number : (i : ℕ) (reply : Reply) (s : State) (count : ℕ) → answer_number (settled m i reply s count).answer ≡ reply_number reply
+  settled_number : (i : ℕ) (reply : Reply) (s : State) (count : ℕ) → answer_number (settled m i reply s count).answer ≡ reply_number reply
   unfolding settled
-  settled-number i Reply.Taken s count = refl
-  settled-number i (Reply.Refused refusal) s count = refl
+  settled_number i Reply.Taken s count = refl
+  settled_number i (Reply.Refused refusal) s count = refl
 
   -- a request that names network i has the answer that its mode and the step of that network say
-  pub request-answered : (handle mode i : ℕ) → Found m (Id.OfNetwork handle) i
+  pub request_answered : (handle mode i : ℕ) → Found m (Id.OfNetwork handle) i
       → (entry_of m (request handle mode)).number ≡ request_number (step_number (state_at m i).step) mode
   unfolding outcome named slot_outcome
-  request-answered handle mode i f =
+  request_answered handle mode i f =
       ap (λ (slot : Slot). answer_number (by_slot m slot (λ i. slot_outcome m i (a_request mode))).answer) f.slot
-      ∙ settled-number i _ _ _ ∙ request_by_step (network_at m i) (state_at m i) mode
+      ∙ settled_number i _ _ _ ∙ request_by_step (network_at m i) (state_at m i) mode

@@ -1,7 +1,7 @@
 -- What holds of a manager from `new` on, and that a tick changes each network by its own rules only.
 use Rattle.lists.proofs.Basics.{ℕ, zero, suc, ◌<◌, ◌≤◌, arith, eqb-true, eqb-false, ◌≡◌, refl, sym, subst, ◌∙◌, List, [], ◌∷◌, Bool, true, false}
 use Rattle.lists.proofs.Basics.{eqb, ltb, length, get_or, set, length-set, get_or-set_same, get_or-set_other}
-use Rattle.lists.proofs.Parts.{padded-length}
+use Rattle.lists.proofs.Parts.{padded_length}
 use Rattle.settings.specs.declared.Network.{Network}
 use Rattle.settings.specs.Settings.{blank_network}
 use Rattle.settings.specs.Good.{InRange, EachInRange}
@@ -20,8 +20,8 @@ use Rattle.slots.specs.declared.Manager.{Manager}
 use Rattle.slots.specs.declared.Outcome.{Outcome}
 use Rattle.slots.specs.Manager.{networks_of, settings_of, blank_state, network_at, state_at, with_state, with_states, with_listening, each, tick_needs}
 use Rattle.slots.specs.Calls.{Call, tick, new_manager, after_reading, gate_of, all_ticked, listened, outcome}
-use Rattle.slots.proofs.Each.{length-each}
-use Rattle.slots.proofs.Own.{slot_network, slot-state, each-slot, ticked-own}
+use Rattle.slots.proofs.Each.{length_each}
+use Rattle.slots.proofs.Own.{slot_network, slot_state, each_slot, ticked_own}
 use Rattle.calls.specs.Histories.{ReadsBytes, Reached, at_new, after}
 use Rattle.calls.proofs.ByCall.{ByCall, by_call}
 use Rattle.manager_theorems.specs.Careful.{Sound}
@@ -38,15 +38,15 @@ each_past f (n ∷ ns) (s ∷ ss) (suc i) e h = each_past f ns ss i e (omega ari
 
 module _ (m : Manager) where
   -- T1: an accepted tick gives each network in use the record after its own tick, and leaves the rest
-  pub tick-own-rules : Sound m → (room : ℕ) → m.stage ≡ Stage.Started → ltb room (tick_needs m) ≡ false → (i : ℕ) → i < length (networks_of m)
+  pub tick_own_rules : Sound m → (room : ℕ) → m.stage ≡ Stage.Started → ltb room (tick_needs m) ≡ false → (i : ℕ) → i < length (networks_of m)
       → state_at (outcome m (tick room)).manager i ≡ tick_state (network_at m i) (state_at m i)
   unfolding outcome gate_of all_ticked
-  tick-own-rules s room e f i h = rw (f, e) (ticked-own m s.networks s.states i h)
+  tick_own_rules s room e f i h = rw (f, e) (ticked_own m s.networks s.states i h)
 
-  pub tick-leaves-rest : (room : ℕ) → m.stage ≡ Stage.Started → ltb room (tick_needs m) ≡ false → (i : ℕ) → length (networks_of m) ≤ i
+  pub tick_leaves_rest : (room : ℕ) → m.stage ≡ Stage.Started → ltb room (tick_needs m) ≡ false → (i : ℕ) → length (networks_of m) ≤ i
       → state_at (outcome m (tick room)).manager i ≡ state_at m i
   unfolding outcome gate_of all_ticked
-  tick-leaves-rest room e f i h = rw (f, e) (each_past tick_state (networks_of m) m.states i blank_state h)
+  tick_leaves_rest room e f i h = rw (f, e) (each_past tick_state (networks_of m) m.states i blank_state h)
 
 -- ---- Sound is kept
 pub in_range_at : (ns : List Network) (i : ℕ) (d : Network) → EachInRange ns → i < length ns → InRange (get_or ns i d)
@@ -70,8 +70,8 @@ new_sound = record {
 
 module _ (m : Manager) (s : Sound m) where
   -- a record stored in slot i of a started manager, which is kept where the slot is in use
-  stored-sound : (i : ℕ) (t : State) → i < length (networks_of m) → Kept (network_at m i) t → Sound (with_state m i t)
-  stored-sound i t used p = record {
+  stored_sound : (i : ℕ) (t : State) → i < length (networks_of m) → Kept (network_at m i) t → Sound (with_state m i t)
+  stored_sound i t used p = record {
     networks = s.networks;
     states = length-set m.states i t ∙ s.states;
     in_range = s.in_range;
@@ -83,30 +83,30 @@ module _ (m : Manager) (s : Sound m) where
           → Kept (network_at m j) (get_or (set m.states i t) j blank_state)
       at_slot e j h true q =
           let f : j ≡ i = eqb-true j i q in
-          let same = get_or-set_same m.states i t blank_state (slot-state m s.networks s.states i used) in
+          let same = get_or-set_same m.states i t blank_state (slot_state m s.networks s.states i used) in
           subst (λ (k : ℕ). Kept (network_at m k) (get_or (set m.states i t) k blank_state)) (sym f) (subst (Kept (network_at m i)) (sym same) p)
       at_slot e j h false q =
           subst (Kept (network_at m j)) (sym (get_or-set_other m.states i j t blank_state (eqb-false j i q))) (s.kept e j h)
 
   -- every record in use is f of its network and its old record
-  each-sound : (f : Network → State → State) (listening : Bool) → (m.stage ≡ Stage.Empty → ⊥)
+  each_sound : (f : Network → State → State) (listening : Bool) → (m.stage ≡ Stage.Empty → ⊥)
       → ((i : ℕ) → i < length (networks_of m) → Kept (network_at m i) (f (network_at m i) (state_at m i)))
       → Sound (with_states m listening (each f (networks_of m) m.states))
-  each-sound f listening loaded p = record {
+  each_sound f listening loaded p = record {
     networks = s.networks;
-    states = length-each f (networks_of m) m.states ∙ s.states;
+    states = length_each f (networks_of m) m.states ∙ s.states;
     in_range = s.in_range;
     good = λ _. s.good loaded;
-    kept = λ e i h. subst (Kept (network_at m i)) (sym (each-slot m f s.networks s.states i h)) (p i h);
+    kept = λ e i h. subst (Kept (network_at m i)) (sym (each_slot m f s.networks s.states i h)) (p i h);
   }
 
-  read-sound : (bytes : List ℕ) →
+  read_sound : (bytes : List ℕ) →
       Bytes bytes → (decode bytes).answer ≡ Verdict.Accepted → Sound (after_reading m (decode bytes) Verdict.Accepted).manager
-  read-sound bytes w e =
+  read_sound bytes w e =
       let g = accepted_good bytes w e in
       record {
         networks =
-            padded-length 8 blank_network (decode bytes).settings.networks (decode bytes).settings.count g.few_networks g.blank_slots;
+            padded_length 8 blank_network (decode bytes).settings.networks (decode bytes).settings.count g.few_networks g.blank_slots;
         states = refl;
         in_range = g.in_range;
         good = λ _. g;
@@ -114,26 +114,26 @@ module _ (m : Manager) (s : Sound m) where
       }
 
   -- whether the manager listens is no part of it
-  listening-sound : (listening : Bool) → Sound (with_listening m listening)
-  listening-sound listening =
+  listening_sound : (listening : Bool) → Sound (with_listening m listening)
+  listening_sound listening =
       record { networks = s.networks; states = s.states; in_range = s.in_range; good = s.good; kept = s.kept }
 
   -- every call keeps it
-  pub call-sound : (c : Call) → ReadsBytes m c → Sound (outcome m c).manager
+  pub call_sound : (c : Call) → ReadsBytes m c → Sound (outcome m c).manager
   unfolding all_ticked listened
-  call-sound = by_call m (λ c o rs. ReadsBytes m c → Sound o.manager) (record {
+  call_sound = by_call m (λ c o rs. ReadsBytes m c → Sound o.manager) (record {
     refuses = λ c a r f w. s;
     declines = λ c id sight i a n f d r w. s;
-    takes = λ c id sight i n f t k w. stored-sound i _ f.used
+    takes = λ c id sight i n f t k w. stored_sound i _ f.used
         (part_kept (network_at m i) (state_at m i) (slot_in_range m s i f.used) (s.kept f.started i f.used) sight);
-    ticks = λ room e k w. each-sound tick_state m.listening (λ f. let z : ◌≡◌ {A = ℕ} 0 1 = cc in omega arith)
+    ticks = λ room e k w. each_sound tick_state m.listening (λ f. let z : ◌≡◌ {A = ℕ} 0 1 = cc in omega arith)
         (λ i h. tick_kept (network_at m i) (state_at m i) (s.kept e i h));
-    listens = λ value room e k a w. listening-sound (eqb 1 value);
+    listens = λ value room e k a w. listening_sound (eqb 1 value);
     polls = λ handle i f w. s;
-    reads = λ bytes f e w. read-sound bytes (w bytes refl f) e;
+    reads = λ bytes f e w. read_sound bytes (w bytes refl f) e;
     misreads = λ bytes fault f w. s;
     writes = λ room f w. s;
-    starts = λ e w. each-sound (λ n t. started n) false (λ f. let z : ◌≡◌ {A = ℕ} 0 1 = cc in omega arith) (λ i h. start_kept (network_at m i));
+    starts = λ e w. each_sound (λ n t. started n) false (λ f. let z : ◌≡◌ {A = ℕ} 0 1 = cc in omega arith) (λ i h. start_kept (network_at m i));
   })
 
   -- once started, a manager stays so and keeps its settings
@@ -156,4 +156,4 @@ module _ (m : Manager) (s : Sound m) where
 -- after any sequence of calls
 pub reached_sound : (m : Manager) → Reached m → Sound m
 reached_sound _ at_new = new_sound
-reached_sound _ (after m c w r) = call-sound m (reached_sound m r) c w
+reached_sound _ (after m c w r) = call_sound m (reached_sound m r) c w

@@ -1,1 +1,3 @@
 // No code: the theorems about the public calls of the manager.
+#![tactic(auto)]
+

@@ -1,4 +1,6 @@
 // One network: its record, and what a request, an answer and a report do to it.
+#![tactic(auto)]
+
 mod answers;
 mod parts;
 
@@ -13,7 +15,7 @@ use settings::{Id, Network};
 use steps::Step;
 
 // N3, K2: a controller's last answer in this step.
-#[derive(Drop)]
+#[derive(Clone, Copy)]
 pub enum LastAnswer {
     Pending,
     Okay,
@@ -27,13 +29,13 @@ impl LastAnswer {
     pub const OKAY: u8 = 1;
 }
 
-#[derive(Drop)]
+#[derive(Clone, Copy)]
 pub struct Heard {
     pub answer: LastAnswer,
 }
 
 // N3, K2: the record of a network. The settings stand apart from it.
-#[derive(Drop)]
+#[derive(Clone, Copy)]
 pub struct State {
     pub step: Step,
     // The wanted mode, and the one that the communication manager was last told.
@@ -48,21 +50,21 @@ pub struct State {
 }
 
 // A network after its tick, and the number of the next record in the lent buffer.
-#[derive(Drop)]
+#[derive(Clone, Copy)]
 pub struct Ticked {
     pub state: State,
     pub next: usize,
 }
 
 // What befalls a network, and is answered at once: one of its controllers is bus-off, or its sending has stuck.
-#[derive(Drop)]
+#[derive(Clone, Copy)]
 pub enum Trouble {
     BusOff,
     Stall,
 }
 
 // What trouble does: recovery begins, coming up begins anew, a reset begins, or the step does not take it.
-#[derive(Drop)]
+#[derive(Clone, Copy)]
 pub enum Hit {
     Recover,
     Restart,
@@ -71,7 +73,7 @@ pub enum Hit {
 }
 
 // Why a network refuses a call that names it, by its rule and its number.
-#[derive(Drop)]
+#[derive(Clone, Copy)]
 pub enum Refusal {
     // R13: 21, a mode above 2 or an ok value above 1.
     OutOfRange,
@@ -84,28 +86,28 @@ pub enum Refusal {
 }
 
 // What a network replies to a call that names it.
-#[derive(Drop)]
+#[derive(Clone, Copy)]
 pub enum Reply {
     Taken,
     Refused(Refusal),
 }
 
 // What a network makes of such a call: its reply, and its record after the call.
-#[derive(Drop)]
+#[derive(Clone, Copy)]
 pub struct Part {
     pub reply: Reply,
     pub state: State,
 }
 
 // What it makes of trouble, and the number of records handed out.
-#[derive(Drop)]
+#[derive(Clone, Copy)]
 pub struct Struck {
     pub part: Part,
     pub count: usize,
 }
 
 // What a controller or a transceiver says: a controller's answer on a mode, by its number; a transceiver's mode; the wake flag.
-#[derive(Drop)]
+#[derive(Clone, Copy)]
 pub enum Report {
     Controller(u8),
     Transceiver(u8),
@@ -114,7 +116,7 @@ pub enum Report {
 }
 
 // What is said to a network and hands out nothing: a request from above; from below the answer of a controller, or a report of a transceiver.
-#[derive(Drop)]
+#[derive(Clone, Copy)]
 pub enum Message {
     Request { handle: u8, mode: u8 },
     Answer { controller: u8, mode: u8, ok: u8 },

@@ -18,7 +18,7 @@ use Rattle.steps.specs.declared.Outfit.TheVariants.{Bare, Fitted, Partial}
 use Rattle.steps.specs.declared.Move.{Move}
 use Rattle.steps.specs.declared.Move.TheVariants.{Stay, AskAgain, Count, EnterFull, EnterSilent, Pass, Wait, GoDown, EnterNoCommunication, Enter}
 use Rattle.steps.specs.Steps.{phase_of, asks_for, on_phase, up_phase, full_phase, is_on, is_up, is_full_step, is_asking, asks_to_start}
-use Rattle.steps.specs.Decision.{by_partial, by_transceiver, when_done, risen, is_no, goes_down, decision}
+use Rattle.steps.specs.Decision.{by_partial_lem, by_transceiver, when_done, risen, is_no, goes_down_lem, decision}
 use Rattle.steps.specs.After.{first_down}
 use Rattle.network.specs.declared.State.{State}
 use Rattle.network.specs.State.{heard_of}
@@ -31,8 +31,8 @@ abbrev pub suits_ask : Outfit → Ask → Bool
 suits_ask outfit Ask.Nothing = true
 suits_ask outfit (Ask.Controllers mode) = true
 suits_ask outfit (Ask.Transceiver mode) = by_transceiver outfit false true
-suits_ask outfit Ask.ClearWake = by_partial outfit false true
-suits_ask outfit Ask.CheckWake = by_partial outfit false true
+suits_ask outfit Ask.ClearWake = by_partial_lem outfit false true
+suits_ask outfit Ask.CheckWake = by_partial_lem outfit false true
 
 -- a step that a network with this outfit can be in
 abbrev pub suits : Outfit → Step → Bool
@@ -129,7 +129,7 @@ pub record ByArrow (done reached : Bool) (outfit : Outfit) (P : Step → Mode �
   pub begins : done ≡ true → P ControllersStopped Mode.Full (Enter ControllersStarted)
   pub starts : done ≡ true → P ControllersStarted Mode.Full EnterFull
   -- any asking step that is not done
-  pub asks_again : (step : Step) (wanted : Mode) → Asks outfit step → goes_down step wanted ≡ false → P step wanted AskAgain
+  pub asks_again : (step : Step) (wanted : Mode) → Asks outfit step → goes_down_lem step wanted ≡ false → P step wanted AskAgain
   -- 4, 5 and 8 as wanted
   pub checks : (t : ℕ) → reached ≡ false → P (Checking t) Mode.Full (Count (Checking (risen t)))
   pub passes : (t : ℕ) → reached ≡ true → P (Checking t) Mode.Full Pass
@@ -150,123 +150,123 @@ pub record ByArrow (done reached : Bool) (outfit : Outfit) (P : Step → Mode �
 
 module _ (done reached : Bool) (outfit : Outfit) (P : Step → Mode → Move → Type 0) (by : ByArrow done reached outfit P) where
   -- ---- by the outfit
-  by-transceiver : {A : Type 0} (Q : A → Type 0) (x y : A) → (outfit ≡ Bare → Q x) → (by_transceiver outfit false true ≡ true → Q y)
+  by_transceiver_lem : {A : Type 0} (Q : A → Type 0) (x y : A) → (outfit ≡ Bare → Q x) → (by_transceiver outfit false true ≡ true → Q y)
       → Q (by_transceiver outfit x y)
-  by-transceiver Q x y p q = by_outfit_lem outfit refl
+  by_transceiver_lem Q x y p q = by_outfit_lem outfit refl
     where
       by_outfit_lem : (o : Outfit) → outfit ≡ o → Q (by_transceiver o x y)
       by_outfit_lem Bare e = p e
       by_outfit_lem Fitted e = q (ap (λ (o : Outfit). by_transceiver o false true) e)
       by_outfit_lem Partial e = q (ap (λ (o : Outfit). by_transceiver o false true) e)
 
-  by_partial_lem : {A : Type 0} (Q : A → Type 0) (x y : A) → (by_partial outfit false true ≡ false → Q x) → (by_partial outfit false true ≡ true → Q y)
-      → Q (by_partial outfit x y)
+  by_partial_lem : {A : Type 0} (Q : A → Type 0) (x y : A) → (by_partial_lem outfit false true ≡ false → Q x) → (by_partial_lem outfit false true ≡ true → Q y)
+      → Q (by_partial_lem outfit x y)
   by_partial_lem Q x y p q = by_outfit_lem outfit refl
     where
-      by_outfit_lem : (o : Outfit) → outfit ≡ o → Q (by_partial o x y)
-      by_outfit_lem Bare e = p (ap (λ (o : Outfit). by_partial o false true) e)
-      by_outfit_lem Fitted e = p (ap (λ (o : Outfit). by_partial o false true) e)
-      by_outfit_lem Partial e = q (ap (λ (o : Outfit). by_partial o false true) e)
+      by_outfit_lem : (o : Outfit) → outfit ≡ o → Q (by_partial_lem o x y)
+      by_outfit_lem Bare e = p (ap (λ (o : Outfit). by_partial_lem o false true) e)
+      by_outfit_lem Fitted e = p (ap (λ (o : Outfit). by_partial_lem o false true) e)
+      by_outfit_lem Partial e = q (ap (λ (o : Outfit). by_partial_lem o false true) e)
 
   -- with partial networking there is a transceiver
-  partial-fitted : (o : Outfit) → by_partial o false true ≡ true → by_transceiver o false true ≡ true
-  partial-fitted Bare e = e
-  partial-fitted Fitted e = refl
-  partial-fitted Partial e = refl
+  partial_fitted : (o : Outfit) → by_partial_lem o false true ≡ true → by_transceiver o false true ≡ true
+  partial_fitted Bare e = e
+  partial_fitted Fitted e = refl
+  partial_fitted Partial e = refl
 
   -- ---- by what is done
-  when-done : (step : Step) (wanted : Mode) (x : Move) → Asks outfit step → goes_down step wanted ≡ false → (done ≡ true → P step wanted x)
+  when_done_lem : (step : Step) (wanted : Mode) (x : Move) → Asks outfit step → goes_down_lem step wanted ≡ false → (done ≡ true → P step wanted x)
       → P step wanted (when_done done x)
-  when-done step wanted x a g p = split (P step wanted) done p (λ _. by.asks_again step wanted a g)
+  when_done_lem step wanted x a g p = split (P step wanted) done p (λ _. by.asks_again step wanted a g)
 
   -- a network that is on and is to be on
   climbing : (step : Step) (x : Move) → suits outfit step ≡ true → is_asking step ≡ true → is_full_step step ≡ false → is_on step ≡ true
-      → (wanted : Mode) → goes_down step wanted ≡ false → (done ≡ true → P step wanted x) → P step wanted (when_done done x)
-  climbing step x u a f o wanted = when-done step wanted x (on_asks outfit step u a f o)
+      → (wanted : Mode) → goes_down_lem step wanted ≡ false → (done ≡ true → P step wanted x) → P step wanted (when_done done x)
+  climbing step x u a f o wanted = when_done_lem step wanted x (on_asks outfit step u a f o)
 
   -- a network that goes down looks at no wanted mode
-  grounded : (step : Step) (wanted : Mode) (x : Move) → Down step → (goes_down step wanted ≡ false → P step wanted x)
-      → P step wanted (cond (goes_down step wanted) GoDown x)
+  grounded : (step : Step) (wanted : Mode) (x : Move) → Down step → (goes_down_lem step wanted ≡ false → P step wanted x)
+      → P step wanted (cond (goes_down_lem step wanted) GoDown x)
   grounded step wanted x d p = by_mode_lem wanted p
     where
-      by_mode_lem : (w : Mode) → (goes_down step w ≡ false → P step w x) → P step w (cond (goes_down step w) GoDown x)
+      by_mode_lem : (w : Mode) → (goes_down_lem step w ≡ false → P step w x) → P step w (cond (goes_down_lem step w) GoDown x)
       by_mode_lem Mode.No q = let o = ap on_phase d.falls in rw o (q o)
       by_mode_lem Mode.Silent q = q refl
       by_mode_lem Mode.Full q = q refl
 
   -- ---- the decision
-  by-arrow : (step : Step) (wanted : Mode) (refused : Bool) → suits outfit step ≡ true → (wanted ≡ Mode.Silent → is_up step ≡ true)
+  by_arrow : (step : Step) (wanted : Mode) (refused : Bool) → suits outfit step ≡ true → (wanted ≡ Mode.Silent → is_up step ≡ true)
       → P step wanted (decision step wanted done refused reached outfit)
   unfolding decision
-  by-arrow NoCommunication Mode.No refused u w = by.rests Mode.No refl
-  by-arrow NoCommunication Mode.Silent refused u w = by.rests Mode.Silent refl
-  by-arrow NoCommunication Mode.Full refused u w =
-      by-transceiver (P NoCommunication Mode.Full) (Enter ControllersStopped) (Enter TransceiverNormal) by.called_bare by.called
-  by-arrow TransceiverNormal Mode.No refused u w = by.goes_down _ refl
-  by-arrow TransceiverNormal Mode.Silent refused u w = absurd (false≢true (w refl))
-  by-arrow TransceiverNormal Mode.Full refused u w = climbing _ _ u refl refl refl _ refl by.climbs
-  by-arrow ControllersStopped Mode.No refused u w = by.goes_down _ refl
-  by-arrow ControllersStopped Mode.Silent refused u w = absurd (false≢true (w refl))
-  by-arrow ControllersStopped Mode.Full refused u w = climbing _ _ u refl refl refl _ refl by.begins
-  by-arrow ControllersStarted Mode.No refused u w = by.goes_down _ refl
-  by-arrow ControllersStarted Mode.Silent refused u w = absurd (false≢true (w refl))
-  by-arrow ControllersStarted Mode.Full refused u w = climbing _ _ u refl refl refl _ refl by.starts
-  by-arrow (Checking t) Mode.No refused u w = by.goes_down _ refl
-  by-arrow (Checking t) Mode.Silent refused u w = by.silences _ refl
-  by-arrow (Checking t) Mode.Full refused u w = split (P (Checking t) Mode.Full) reached (by.passes t) (by.checks t)
-  by-arrow Full Mode.No refused u w = by.goes_down _ refl
-  by-arrow Full Mode.Silent refused u w = by.silences _ refl
-  by-arrow Full Mode.Full refused u w = by.stays_full
-  by-arrow Restarting Mode.No refused u w = by.goes_down _ refl
-  by-arrow Restarting Mode.Silent refused u w = climbing _ _ u refl refl refl _ refl (by.waits _ refl)
-  by-arrow Restarting Mode.Full refused u w = climbing _ _ u refl refl refl _ refl (by.waits _ refl)
-  by-arrow (Waiting t) Mode.No refused u w = by.goes_down _ refl
-  by-arrow (Waiting t) Mode.Silent refused u w =
+  by_arrow NoCommunication Mode.No refused u w = by.rests Mode.No refl
+  by_arrow NoCommunication Mode.Silent refused u w = by.rests Mode.Silent refl
+  by_arrow NoCommunication Mode.Full refused u w =
+      by_transceiver_lem (P NoCommunication Mode.Full) (Enter ControllersStopped) (Enter TransceiverNormal) by.called_bare by.called
+  by_arrow TransceiverNormal Mode.No refused u w = by.goes_down _ refl
+  by_arrow TransceiverNormal Mode.Silent refused u w = absurd (false≢true (w refl))
+  by_arrow TransceiverNormal Mode.Full refused u w = climbing _ _ u refl refl refl _ refl by.climbs
+  by_arrow ControllersStopped Mode.No refused u w = by.goes_down _ refl
+  by_arrow ControllersStopped Mode.Silent refused u w = absurd (false≢true (w refl))
+  by_arrow ControllersStopped Mode.Full refused u w = climbing _ _ u refl refl refl _ refl by.begins
+  by_arrow ControllersStarted Mode.No refused u w = by.goes_down _ refl
+  by_arrow ControllersStarted Mode.Silent refused u w = absurd (false≢true (w refl))
+  by_arrow ControllersStarted Mode.Full refused u w = climbing _ _ u refl refl refl _ refl by.starts
+  by_arrow (Checking t) Mode.No refused u w = by.goes_down _ refl
+  by_arrow (Checking t) Mode.Silent refused u w = by.silences _ refl
+  by_arrow (Checking t) Mode.Full refused u w = split (P (Checking t) Mode.Full) reached (by.passes t) (by.checks t)
+  by_arrow Full Mode.No refused u w = by.goes_down _ refl
+  by_arrow Full Mode.Silent refused u w = by.silences _ refl
+  by_arrow Full Mode.Full refused u w = by.stays_full
+  by_arrow Restarting Mode.No refused u w = by.goes_down _ refl
+  by_arrow Restarting Mode.Silent refused u w = climbing _ _ u refl refl refl _ refl (by.waits _ refl)
+  by_arrow Restarting Mode.Full refused u w = climbing _ _ u refl refl refl _ refl (by.waits _ refl)
+  by_arrow (Waiting t) Mode.No refused u w = by.goes_down _ refl
+  by_arrow (Waiting t) Mode.Silent refused u w =
       split (P (Waiting t) Mode.Silent) reached (λ _. by.silences _ refl) (by.waits_on t Mode.Silent refl)
-  by-arrow (Waiting t) Mode.Full refused u w =
+  by_arrow (Waiting t) Mode.Full refused u w =
       split (P (Waiting t) Mode.Full) reached (λ _. by.fills _ refl refl) (by.waits_on t Mode.Full refl)
-  by-arrow Silent Mode.No refused u w = by.goes_down _ refl
-  by-arrow Silent Mode.Silent refused u w = by.stays_silent
-  by-arrow Silent Mode.Full refused u w = by.fills _ refl refl
-  by-arrow ClearWake wanted refused u w =
+  by_arrow Silent Mode.No refused u w = by.goes_down _ refl
+  by_arrow Silent Mode.Silent refused u w = by.stays_silent
+  by_arrow Silent Mode.Full refused u w = by.fills _ refl refl
+  by_arrow ClearWake wanted refused u w =
       let d : Down ClearWake = record { falls = refl; starts_not = refl } in
-      grounded ClearWake wanted _ d (λ g. when-done _ _ _ (down_asks outfit ClearWake u refl d) g (λ _. by_partial_lem (P ClearWake wanted) _ _
+      grounded ClearWake wanted _ d (λ g. when_done_lem _ _ _ (down_asks outfit ClearWake u refl d) g (λ _. by_partial_lem (P ClearWake wanted) _ _
       (λ o. absurd (false≢true (sym o ∙ u))) (λ o. by.sinks _ _ _ d (record { falls = refl; starts_not = refl }) refl)))
-  by-arrow DownStopped wanted refused u w =
+  by_arrow DownStopped wanted refused u w =
       let d : Down DownStopped = record { falls = refl; starts_not = refl } in
-      grounded DownStopped wanted _ d (λ g. when-done _ _ _ (down_asks outfit DownStopped u refl d) g (λ _. by_partial_lem (P DownStopped wanted) _ _
+      grounded DownStopped wanted _ d (λ g. when_done_lem _ _ _ (down_asks outfit DownStopped u refl d) g (λ _. by_partial_lem (P DownStopped wanted) _ _
       (λ o. by.sinks _ _ _ d (record { falls = refl; starts_not = refl }) refl)
-      (λ o. by.sinks _ _ _ d (record { falls = refl; starts_not = refl }) (partial-fitted outfit o))))
-  by-arrow TransceiverStandby wanted refused u w =
+      (λ o. by.sinks _ _ _ d (record { falls = refl; starts_not = refl }) (partial_fitted outfit o))))
+  by_arrow TransceiverStandby wanted refused u w =
       let d : Down TransceiverStandby = record { falls = refl; starts_not = refl } in
-      grounded TransceiverStandby wanted _ d (λ g. when-done _ _ _ (down_asks outfit TransceiverStandby u refl d) g (λ _.
+      grounded TransceiverStandby wanted _ d (λ g. when_done_lem _ _ _ (down_asks outfit TransceiverStandby u refl d) g (λ _.
       by_partial_lem (P TransceiverStandby wanted) _ _ (λ o. by.ends _ _ d) (λ o. by.sinks _ _ _ d (record { falls = refl; starts_not = refl }) refl)))
-  by-arrow ControllersSleep wanted refused u w =
+  by_arrow ControllersSleep wanted refused u w =
       let d : Down ControllersSleep = record { falls = refl; starts_not = refl } in
       let a = down_asks outfit ControllersSleep u refl d in
       grounded ControllersSleep wanted _ d (λ g. by_partial_lem (P ControllersSleep wanted) _ _
-      (λ o. when-done _ _ _ a g (λ _. by-transceiver (P ControllersSleep wanted) _ _ (λ q. by.ends _ _ d)
+      (λ o. when_done_lem _ _ _ a g (λ _. by_transceiver_lem (P ControllersSleep wanted) _ _ (λ q. by.ends _ _ d)
       (λ q. by.sinks _ _ _ d (record { falls = refl; starts_not = refl }) q)))
       (λ o. split (P ControllersSleep wanted) refused (λ _. by.sinks _ _ _ d (record { falls = refl; starts_not = refl }) o)
-      (λ _. when-done _ _ _ a g (λ _. by.sinks _ _ _ d (record { falls = refl; starts_not = refl }) o))))
-  by-arrow CheckWake wanted refused u w =
+      (λ _. when_done_lem _ _ _ a g (λ _. by.sinks _ _ _ d (record { falls = refl; starts_not = refl }) o))))
+  by_arrow CheckWake wanted refused u w =
       let d : Down CheckWake = record { falls = refl; starts_not = refl } in
-      grounded CheckWake wanted _ d (λ g. when-done _ _ _ (down_asks outfit CheckWake u refl d) g (λ _. by_partial_lem (P CheckWake wanted) _ _
+      grounded CheckWake wanted _ d (λ g. when_done_lem _ _ _ (down_asks outfit CheckWake u refl d) g (λ _. by_partial_lem (P CheckWake wanted) _ _
       (λ o. absurd (false≢true (sym o ∙ u))) (λ o. by.ends _ _ d)))
-  by-arrow CheckWakeAgain wanted refused u w =
+  by_arrow CheckWakeAgain wanted refused u w =
       let d : Down CheckWakeAgain = record { falls = refl; starts_not = refl } in
-      grounded CheckWakeAgain wanted _ d (λ g. when-done _ _ _ (down_asks outfit CheckWakeAgain u refl d) g (λ _.
+      grounded CheckWakeAgain wanted _ d (λ g. when_done_lem _ _ _ (down_asks outfit CheckWakeAgain u refl d) g (λ _.
       by_partial_lem (P CheckWakeAgain wanted) _ _ (λ o. absurd (false≢true (sym o ∙ u)))
       (λ o. by.sinks _ _ _ d (record { falls = refl; starts_not = refl }) u)))
-  by-arrow ResetStopped Mode.No refused u w = by.goes_down _ refl
-  by-arrow ResetStopped Mode.Silent refused u w = climbing _ _ u refl refl refl _ refl (by.resumes _ refl)
-  by-arrow ResetStopped Mode.Full refused u w = climbing _ _ u refl refl refl _ refl (by.resumes _ refl)
-  by-arrow ResetStarted Mode.No refused u w = by.goes_down _ refl
-  by-arrow ResetStarted Mode.Silent refused u w = climbing _ _ u refl refl refl _ refl (λ _. by.silences _ refl)
-  by-arrow ResetStarted Mode.Full refused u w = climbing _ _ u refl refl refl _ refl (λ _. by.fills _ refl refl)
+  by_arrow ResetStopped Mode.No refused u w = by.goes_down _ refl
+  by_arrow ResetStopped Mode.Silent refused u w = climbing _ _ u refl refl refl _ refl (by.resumes _ refl)
+  by_arrow ResetStopped Mode.Full refused u w = climbing _ _ u refl refl refl _ refl (by.resumes _ refl)
+  by_arrow ResetStarted Mode.No refused u w = by.goes_down _ refl
+  by_arrow ResetStarted Mode.Silent refused u w = climbing _ _ u refl refl refl _ refl (λ _. by.silences _ refl)
+  by_arrow ResetStarted Mode.Full refused u w = climbing _ _ u refl refl refl _ refl (λ _. by.fills _ refl refl)
 
 -- whatever holds of each arrow holds of what a tick decides for a network
 pub by_tick_arrow : (n : Network) (s : State) (P : Step → Mode → Move → Type 0) → ByArrow (finished n s) (reaches n s) (own_outfit n) P
     → suits (own_outfit n) s.step ≡ true → Kept n s → P s.step s.wanted (decides n s)
 by_tick_arrow n s P by u k =
-    by-arrow (finished n s) (reaches n s) (own_outfit n) P by s.step s.wanted (any is_refusal (heard_of n s)) u k.wanted
+    by_arrow (finished n s) (reaches n s) (own_outfit n) P by s.step s.wanted (any is_refusal (heard_of n s)) u k.wanted

@@ -13,7 +13,7 @@ use Rattle.steps.specs.declared.Outfit.{Outfit}
 use Rattle.steps.specs.declared.Move.{Move}
 use Rattle.steps.specs.Steps.{phase_of, timer_of, full_phase, is_full_step}
 use Rattle.steps.specs.Decision.{risen}
-use Rattle.steps.specs.After.{first_down, step_after}
+use Rattle.steps.specs.After.{first_down, step_after_lem}
 use Rattle.handing.specs.Handing.{recovery, reset}
 use Rattle.network.specs.declared.State.{State}
 use Rattle.network.specs.State.{started}
@@ -24,8 +24,8 @@ use Rattle.network_theorems.specs.Kept.{Kept}
 use Rattle.network_demands.specs.Words.{Seen, OwnHistory, hands, since, tally, ticked}
 use Rattle.network_demands.specs.Own.{finished, decides, reaches, tick_hands, played, state_of, Fits, Ran}
 use Rattle.network_demands.proofs.Views.{seen, by_part}
-use Rattle.network_demands.proofs.Tests.{reaches-checked}
-use Rattle.network_demands.proofs.Handed.{is_pass, is_enter_full, move-says-full}
+use Rattle.network_demands.proofs.Tests.{reaches_checked}
+use Rattle.network_demands.proofs.Handed.{is_pass, is_enter_full, move_says_full}
 use Rattle.network_demands.proofs.Follows.{state_kept}
 use Rattle.network_demands.proofs.Arrows.{suits, own_outfit, ByArrow, by_tick_arrow}
 use Rattle.network_demands.proofs.Standing.{stands}
@@ -73,7 +73,7 @@ Goes ensure k next m = Checked ensure next (after k m) × (is_pass m ≡ is_full
 module _ (ensure k : ℕ) (some : 0 < ensure) (few : ensure < 65536) (partial done reached : Bool) (outfit : Outfit) where
   abbrev Checks : Step → Mode → Move → Type 0
   Checks step wanted m =
-      ((t : ℕ) → step ≡ Checking t → reached ≡ leb ensure (t + 1)) → Checked ensure step k → Goes ensure k (step_after m step partial) m
+      ((t : ℕ) → step ≡ Checking t → reached ≡ leb ensure (t + 1)) → Checked ensure step k → Goes ensure k (step_after_lem m step partial) m
 
   -- to a step that is not full
   leaves : (next : Step) (m : Move) → is_full_step next ≡ false → is_pass m ≡ false → Goes ensure k next m
@@ -83,16 +83,16 @@ module _ (ensure k : ℕ) (some : 0 < ensure) (few : ensure < 65536) (partial do
   enters : (m : Move) → is_enter_full m ≡ true → is_pass m ≡ false → Goes ensure k (Checking 0) m
   enters m e p = rw e ((refl, some), p ∙ sym (ne_eqb ensure 0 (λ z. omega (arith, some))))
 
-  counts-on : (t : ℕ) → reached ≡ false → reached ≡ leb ensure (t + 1) → (k ≡ t) × (t < ensure)
+  counts_on : (t : ℕ) → reached ≡ false → reached ≡ leb ensure (t + 1) → (k ≡ t) × (t < ensure)
       → ((suc k ≡ risen t) × (risen t < ensure)) × (false ≡ true && eqb ensure (suc k))
-  counts-on t r e i =
+  counts_on t r e i =
       let l = leb-false ensure (t + 1) (sym e ∙ r) in
       let up = lt-ltb t 65535 (omega arith) in
       rw up ((omega (arith, i.0), omega arith), sym (ne_eqb ensure (suc k) (λ z. omega (arith, i.0))))
 
-  reaches-it : (t : ℕ) → reached ≡ true → reached ≡ leb ensure (t + 1) → (k ≡ t) × (t < ensure)
+  reaches_it : (t : ℕ) → reached ≡ true → reached ≡ leb ensure (t + 1) → (k ≡ t) × (t < ensure)
       → (ensure ≤ suc k) × (true ≡ true && eqb ensure (suc k))
-  reaches-it t r e i =
+  reaches_it t r e i =
       let l = leb-true ensure (t + 1) (sym e ∙ r) in
       (omega (arith, i.0), sym (eq-eqb ensure (suc k) (omega (arith, i.0, i.1))))
 
@@ -105,8 +105,8 @@ module _ (ensure k : ℕ) (some : 0 < ensure) (few : ensure < 65536) (partial do
     begins = λ d q i. (tt, refl);
     starts = λ d q i. enters Move.EnterFull refl refl;
     asks_again = λ step wanted a g q i. leaves step Move.AskAgain a.not_full refl;
-    checks = λ t r q i. counts-on t r (q t refl) i;
-    passes = λ t r q i. reaches-it t r (q t refl) i;
+    checks = λ t r q i. counts_on t r (q t refl) i;
+    passes = λ t r q i. reaches_it t r (q t refl) i;
     stays_full = λ q i. (omega (arith, i), sym (ne_eqb ensure (suc k) (λ z. omega (arith, i))));
     stays_silent = λ q i. (tt, refl);
     waits = λ wanted w d q i. (tt, refl);
@@ -122,43 +122,43 @@ module _ (ensure k : ℕ) (some : 0 < ensure) (few : ensure < 65536) (partial do
 -- ---- all that is seen
 module _ (n : Network) where
   -- the ticks since full was last said
-  abbrev pub sinceFull : OwnHistory → ℕ
-  sinceFull h = tally ticked (since (hands 6 n.handle 2) h)
+  abbrev pub since_full : OwnHistory → ℕ
+  since_full h = tally ticked (since (hands 6 n.handle 2) h)
 
   -- a tick is one more, or the first
-  pub since-full-tick : (h : OwnHistory) (e : Seen) → ticked e ≡ true → sinceFull (e ∷ h) ≡ cond (hands 6 n.handle 2 e) 0 (suc (sinceFull h))
+  pub since_full_tick : (h : OwnHistory) (e : Seen) → ticked e ≡ true → since_full (e ∷ h) ≡ cond (hands 6 n.handle 2 e) 0 (suc (since_full h))
   unfolding since tally
-  since-full-tick h e t = by-test (hands 6 n.handle 2 e)
+  since_full_tick h e t = by_test (hands 6 n.handle 2 e)
     where
-      by-test : (b : Bool) → tally ticked (cond b [] (e ∷ since (hands 6 n.handle 2) h)) ≡ cond b 0 (suc (sinceFull h))
-      by-test true = refl
-      by-test false = rw t refl
+      by_test : (b : Bool) → tally ticked (cond b [] (e ∷ since (hands 6 n.handle 2) h)) ≡ cond b 0 (suc (since_full h))
+      by_test true = refl
+      by_test false = rw t refl
 
   -- what a tick makes of it
-  pub checked-tick : (s : State) (k : ℕ) → InRange n → Kept n s → suits (own_outfit n) s.step ≡ true → Checked n.ensure s.step k
-      → Goes n.ensure k (step_after (decides n s) s.step n.partial) (decides n s)
-  checked-tick s k g kept u i =
+  pub checked_tick : (s : State) (k : ℕ) → InRange n → Kept n s → suits (own_outfit n) s.step ≡ true → Checked n.ensure s.step k
+      → Goes n.ensure k (step_after_lem (decides n s) s.step n.partial) (decides n s)
+  checked_tick s k g kept u i =
       by_tick_arrow n s (Checks n.ensure k g.ensure.0 g.ensure.1 n.partial (finished n s) (reaches n s) (own_outfit n))
       (checks n.ensure k g.ensure.0 g.ensure.1 n.partial (finished n s) (reaches n s) (own_outfit n)) u kept
-      (reaches-checked n s) i
+      (reaches_checked n s) i
 
   checked_call : InRange n → (h : OwnHistory) (s : State) → Kept n s → suits (own_outfit n) s.step ≡ true
-      → Checked n.ensure s.step (sinceFull h)
-      → (e : Seen) → Fits n s e → Checked n.ensure (played n s e.sight).state.step (sinceFull (e ∷ h))
+      → Checked n.ensure s.step (since_full h)
+      → (e : Seen) → Fits n s e → Checked n.ensure (played n s e.sight).state.step (since_full (e ∷ h))
   unfolding since tally any recovery reset after_move after_hit made_anew
-  checked_call g h s kept u i = by_part n s (λ e t. Checked n.ensure t.step (sinceFull (e ∷ h))) (record {
+  checked_call g h s kept u i = by_part n s (λ e t. Checked n.ensure t.step (since_full (e ∷ h))) (record {
     plain = λ sight number mode reported p. rw p.tick i;
     hears = λ c mode ok m l e. i;
     recovers = λ u. tt;
     restarts = λ u a. i;
     not_taken = λ u a. i;
     resets = λ f. tt;
-    ticks = rw (since-full-tick h (seen a_tick 0 (tick_hands n s)) refl, move-says-full n s.step s.told (decides n s))
-        (checked-tick s (sinceFull h) g kept u i).0;
+    ticks = rw (since_full_tick h (seen a_tick 0 (tick_hands n s)) refl, move_says_full n s.step s.told (decides n s))
+        (checked_tick s (since_full h) g kept u i).0;
   })
 
   -- from the start on
-  pub checked : InRange n → (h : OwnHistory) → Ran n h → Checked n.ensure (state_of n h).step (sinceFull h)
+  pub checked : InRange n → (h : OwnHistory) → Ran n h → Checked n.ensure (state_of n h).step (since_full h)
   unfolding state_of Ran started since tally
   checked g [] r = not_full n.ensure 0 (phase_of (first_down n.partial)) (timer_of (first_down n.partial)) (first_down_not_full n.partial)
   checked g (e ∷ h) r =

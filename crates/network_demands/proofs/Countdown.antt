@@ -14,7 +14,7 @@ use Rattle.steps.specs.declared.Outfit.{Outfit}
 use Rattle.steps.specs.declared.Move.{Move}
 use Rattle.steps.specs.declared.Move.TheVariants.{AskAgain}
 use Rattle.steps.specs.Steps.{is_asking, is_full_step}
-use Rattle.steps.specs.After.{step_after}
+use Rattle.steps.specs.After.{step_after_lem}
 use Rattle.network.specs.declared.State.{State}
 use Rattle.network.specs.State.{heard_of}
 use Rattle.network.specs.Rules.{is_refusal, delay_of}
@@ -23,7 +23,7 @@ use Rattle.network.specs.Parts.{a_tick}
 use Rattle.network_demands.specs.Words.{Seen, OwnHistory, hands, never, tally, ticked, struck, told, GoodTicks}
 use Rattle.network_demands.specs.Own.{finished, reaches, decides, tick_after, tick_hands, state_of, Ran}
 use Rattle.network_demands.proofs.Views.{seen, by_part}
-use Rattle.network_demands.proofs.Tests.{finished-asked}
+use Rattle.network_demands.proofs.Tests.{finished_asked}
 use Rattle.network_demands.proofs.Follows.{wanted_follows, told_follows}
 use Rattle.network_demands.proofs.Second.{never_first, never_rest}
 use Rattle.network_demands.proofs.Says.{says_full, just_reached}
@@ -31,7 +31,7 @@ use Rattle.network_demands.proofs.Arrows.{suits, own_outfit, has_rested}
 use Rattle.network_demands.proofs.Standing.{stands}
 use Rattle.network_demands.proofs.Told.{told_in_full}
 use Rattle.network_demands.proofs.Toward.{ticks_left, onward, asks_again, less, is_none, none_left, keeps_told, keeps_rested}
-use Rattle.network_demands.proofs.Nearer.{left, Onward, moves-on, tick-nearer, full_number, full_then, onward_then, fewer_ticks}
+use Rattle.network_demands.proofs.Nearer.{left, Onward, moves_on, tick_nearer, full_number, full_then, onward_then, fewer_ticks}
 
 -- where none was counted, this is none
 pub no_tick : (b : Bool) (k : ℕ) → cond b (suc k) k ≡ 0 → (b ≡ false) × (k ≡ 0)
@@ -46,10 +46,10 @@ pub record Unmoved (s t : State) : Type 0 where
   pub asked : t.asked ≡ s.asked
 
 module _ (n : Network) (h : OwnHistory) where
-  unmoved-more : (e : Seen) (q : OwnHistory) → Ran n (e ∷ (q ++ h)) → struck e ≡ false → ticked e ≡ false
+  unmoved_more : (e : Seen) (q : OwnHistory) → Ran n (e ∷ (q ++ h)) → struck e ≡ false → ticked e ≡ false
       → Unmoved (state_of n h) (state_of n (q ++ h)) → Unmoved (state_of n h) (state_of n (e ∷ (q ++ h)))
   unfolding Ran state_of
-  unmoved-more e q r calm tick i =
+  unmoved_more e q r calm tick i =
       by_part n s (λ e t. struck e ≡ false → ticked e ≡ false → Unmoved (state_of n h) t) (record {
         plain = λ sight number mode reported p _ _. record { step = i.step; told = i.told; count = i.count; asked = i.asked };
         hears = λ c mode ok m l t _ _. record { step = i.step; told = i.told; count = i.count; asked = i.asked };
@@ -68,7 +68,7 @@ module _ (n : Network) (h : OwnHistory) where
   unmoved [] r calm z = record { step = refl; told = refl; count = refl; asked = refl }
   unmoved (e ∷ q) r calm z =
       let x = no_tick (ticked e) (tally ticked q) z in
-      unmoved-more e q r (never_first struck e q calm) x.0 (unmoved q r.1 (never_rest struck e q calm) x.1)
+      unmoved_more e q r (never_first struck e q calm) x.0 (unmoved q r.1 (never_rest struck e q calm) x.1)
 
 -- ---- on the way: full is told on the last tick, and a mode until then; a network that does not go down does not begin to
 pub record Heads (n : Network) (s : State) (q : OwnHistory) (rests : Bool) (mode : Mode) (last : ℕ) : Type 0 where
@@ -90,18 +90,18 @@ full_left step outfit delay last k e = none_left step outfit delay ∙ by_number
 
 module _ (n : Network) (g : InRange n) (rests : Bool) (mode : Mode) (last : ℕ) (falls : rests ≡ false → mode ≡ Mode.No) where
   -- what is no tick
-  heads-quiet : (s t : State) (q : OwnHistory) (e : Seen) → t.step ≡ s.step → t.told ≡ s.told → t.count ≡ s.count → ticked e ≡ false
+  heads_quiet : (s t : State) (q : OwnHistory) (e : Seen) → t.step ≡ s.step → t.told ≡ s.told → t.count ≡ s.count → ticked e ≡ false
       → Heads n s q rests mode last → Heads n t (e ∷ q) rests mode last
   unfolding tally
-  heads-quiet s t q e step said count tick i = record {
+  heads_quiet s t q e step said count tick i = record {
     left = rw (step, count, tick) i.left;
     told = λ l. said ∙ i.told (rw (tick) at l);
     rested = λ z. ap has_rested step ∙ i.rested z;
   }
 
   -- full is where the last tick is reached
-  pub heads-full : (s : State) (q : OwnHistory) → Heads n s q rests mode last → is_full_step s.step ≡ leb last (tally ticked q)
-  heads-full s q i = full_left s.step (own_outfit n) (delay_of n s.count) last (tally ticked q) i.left
+  pub heads_full : (s : State) (q : OwnHistory) → Heads n s q rests mode last → is_full_step s.step ≡ leb last (tally ticked q)
+  heads_full s q i = full_left s.step (own_outfit n) (delay_of n s.count) last (tally ticked q) i.left
 
   -- a tick that goes on
   module _ (s : State) (q : OwnHistory) (u : suits (own_outfit n) s.step ≡ true) (o : Onward n s) (i : Heads n s q rests mode last) where
@@ -109,42 +109,42 @@ module _ (n : Network) (g : InRange n) (rests : Bool) (mode : Mode) (last : ℕ)
     m = onward (own_outfit n) (reaches n s) s.step
 
     abbrev next : Step
-    next = step_after m s.step n.partial
+    next = step_after_lem m s.step n.partial
 
     pub same_step : (tick_after n s).step ≡ next
     unfolding after_move
-    same_step = ap (λ (x : Move). step_after x s.step n.partial) (moves-on n g s u o)
+    same_step = ap (λ (x : Move). step_after_lem x s.step n.partial) (moves_on n g s u o)
 
-    now-left : left n (tick_after n s) ≡ last - suc (tally ticked q)
-    now-left = tick-nearer n g s u o ∙ less_same (left n s) last (tally ticked q) i.left
+    now_left : left n (tick_after n s) ≡ last - suc (tally ticked q)
+    now_left = tick_nearer n g s u o ∙ less_same (left n s) last (tally ticked q) i.left
 
     now_full : is_full_step next ≡ leb last (suc (tally ticked q))
     now_full =
         ap is_full_step (sym same_step)
-        ∙ full_left (tick_after n s).step (own_outfit n) (delay_of n (tick_after n s).count) last (suc (tally ticked q)) now-left
+        ∙ full_left (tick_after n s).step (own_outfit n) (delay_of n (tick_after n s).count) last (suc (tally ticked q)) now_left
 
     -- where it goes down, the mode is no
-    down-told : tally ticked q < last → has_rested s.step ≡ false → s.told ≡ Mode.No
-    down-told l z = i.told l ∙ falls (by-test rests i.rested)
+    down_told : tally ticked q < last → has_rested s.step ≡ false → s.told ≡ Mode.No
+    down_told l z = i.told l ∙ falls (by_test rests i.rested)
       where
-        by-test : (b : Bool) → (b ≡ true → has_rested s.step ≡ true) → b ≡ false
-        by-test true f = absurd (true≢false (sym (f refl) ∙ z))
-        by-test false f = refl
+        by_test : (b : Bool) → (b ≡ true → has_rested s.step ≡ true) → b ≡ false
+        by_test true f = absurd (true≢false (sym (f refl) ∙ z))
+        by_test false f = refl
 
-    now-told : suc (tally ticked q) < last → (tick_after n s).told ≡ mode
+    now_told : suc (tally ticked q) < last → (tick_after n s).told ≡ mode
     unfolding after_move
-    now-told l =
+    now_told l =
         let before : tally ticked q < last = omega (arith, l) in
-        let not_yet = heads-full s q i ∙ lt-leb last (tally ticked q) before in
-        ap (λ (x : Move). told_after x s.told) (moves-on n g s u o)
-        ∙ keeps_told s.step (own_outfit n) (reaches n s) s.told n.partial not_yet (down-told before)
+        let not_yet = heads_full s q i ∙ lt-leb last (tally ticked q) before in
+        ap (λ (x : Move). told_after x s.told) (moves_on n g s u o)
+        ∙ keeps_told s.step (own_outfit n) (reaches n s) s.told n.partial not_yet (down_told before)
         ∙ ap (λ (b : Bool). cond b Mode.Full s.told) (now_full ∙ lt-leb last (suc (tally ticked q)) l) ∙ i.told before
 
-    heads-tick : Heads n (tick_after n s) (seen a_tick 0 (tick_hands n s) ∷ q) rests mode last
+    heads_tick : Heads n (tick_after n s) (seen a_tick 0 (tick_hands n s) ∷ q) rests mode last
     unfolding tally
-    heads-tick = record {
-      left = now-left;
-      told = now-told;
+    heads_tick = record {
+      left = now_left;
+      told = now_told;
       rested = λ z. ap has_rested same_step ∙ keeps_rested s.step (own_outfit n) (reaches n s) n.partial (i.rested z);
     }
 
@@ -153,28 +153,28 @@ module _ (n : Network) (g : InRange n) (rests : Bool) (mode : Mode) (last : ℕ)
     abbrev at : OwnHistory → State
     at q = state_of n (q ++ h)
 
-    pub heads-more : (e : Seen) (q : OwnHistory) → Ran n (e ∷ (q ++ h)) → struck e ≡ false → (ticked e ≡ true → Onward n (at q))
+    pub heads_more : (e : Seen) (q : OwnHistory) → Ran n (e ∷ (q ++ h)) → struck e ≡ false → (ticked e ≡ true → Onward n (at q))
         → Heads n (at q) q rests mode last → Heads n (at (e ∷ q)) (e ∷ q) rests mode last
     unfolding Ran state_of
-    heads-more e q r calm o i =
+    heads_more e q r calm o i =
         by_part n (at q) (λ e t. struck e ≡ false → (ticked e ≡ true → Onward n (at q)) → Heads n t (e ∷ q) rests mode last) (record {
-          plain = λ sight number wanted reported p _ _. heads-quiet (at q) _ q _ refl refl refl p.tick i;
-          hears = λ c k ok m l t _ _. heads-quiet (at q) _ q _ refl refl refl refl i;
+          plain = λ sight number wanted reported p _ _. heads_quiet (at q) _ q _ refl refl refl p.tick i;
+          hears = λ c k ok m l t _ _. heads_quiet (at q) _ q _ refl refl refl refl i;
           recovers = λ u calm _. absurd (true≢false calm);
           restarts = λ u a calm _. absurd (true≢false calm);
-          not_taken = λ u a _ _. heads-quiet (at q) _ q _ refl refl refl refl i;
+          not_taken = λ u a _ _. heads_quiet (at q) _ q _ refl refl refl refl i;
           resets = λ u calm _. absurd (true≢false calm);
-          ticks = λ _ o. heads-tick (at q) q (stands n g (q ++ h) r.1).suited (o refl) i;
+          ticks = λ _ o. heads_tick (at q) q (stands n g (q ++ h) r.1).suited (o refl) i;
         }) e r.0 calm o
 
     -- what is told
-    pub heads-told : (q : OwnHistory) → Ran n (q ++ h) → Heads n (at q) q rests mode last
+    pub heads_told : (q : OwnHistory) → Ran n (q ++ h) → Heads n (at q) q rests mode last
         → told n (q ++ h) ≡ cond (leb last (tally ticked q)) 2 (mode_number mode)
-    heads-told q r i = by-test (leb last (tally ticked q)) refl
+    heads_told q r i = by_test (leb last (tally ticked q)) refl
       where
-        by-test : (b : Bool) → leb last (tally ticked q) ≡ b → told n (q ++ h) ≡ cond b 2 (mode_number mode)
-        by-test true e = sym (eqb-true 2 (told n (q ++ h)) (told_in_full n g (q ++ h) r ∙ heads-full (at q) q i ∙ e))
-        by-test false e = sym (told_follows n (q ++ h) r) ∙ ap mode_number (i.told (leb-false last (tally ticked q) e))
+        by_test : (b : Bool) → leb last (tally ticked q) ≡ b → told n (q ++ h) ≡ cond b 2 (mode_number mode)
+        by_test true e = sym (eqb-true 2 (told n (q ++ h)) (told_in_full n g (q ++ h) r ∙ heads_full (at q) q i ∙ e))
+        by_test false e = sym (told_follows n (q ++ h) r) ∙ ap mode_number (i.told (leb-false last (tally ticked q) e))
 
 -- where another mode was told up to a tick and full from it on, that tick tells full, and no other
 pub told_then : (n : Network) → InRange n → (last mode : ℕ) → eqb 2 mode ≡ false → (t : Seen) (q h : OwnHistory) → Ran n (t ∷ (q ++ h))
@@ -217,30 +217,30 @@ module _ (n : Network) (g : InRange n) (f : Distinct (controllers_of n)) (h : Ow
 
   -- the first tick asks
   module _ (s : State) (u : Unmoved first s) (w : has_rested s.step ≡ true → s.wanted ≡ Mode.Full) where
-    pub asks-first : decides n s ≡ AskAgain
-    asks-first =
+    pub asks_first : decides n s ≡ AskAgain
+    asks_first =
         asks_again s.step s.wanted (finished n s) (any is_refusal (heard_of n s)) (reaches n s) (own_outfit n)
         (ap is_asking u.step ∙ i.asking) (not_done (finished n s) refl) (λ z. absurd (i.awake (sym u.step ∙ z))) w
       where
         not_done : (b : Bool) → finished n s ≡ b → b ≡ false
-        not_done true e = absurd (true≢false (sym (finished-asked n s e) ∙ u.asked ∙ i.unasked))
+        not_done true e = absurd (true≢false (sym (finished_asked n s e) ∙ u.asked ∙ i.unasked))
         not_done false e = refl
 
-    heads-first : (q : OwnHistory) → tally ticked q ≡ 0 → Heads n (tick_after n s) (seen a_tick 0 (tick_hands n s) ∷ q) rests first.told last
+    heads_first : (q : OwnHistory) → tally ticked q ≡ 0 → Heads n (tick_after n s) (seen a_tick 0 (tick_hands n s) ∷ q) rests first.told last
     unfolding after_move tally
-    heads-first q k = record {
-      left = rw (k) (ap (λ (m : Move). ticks_left (own_outfit n) (delay_of n (count_after m s.count)) (step_after m s.step n.partial)) asks-first
+    heads_first q k = record {
+      left = rw (k) (ap (λ (m : Move). ticks_left (own_outfit n) (delay_of n (count_after m s.count)) (step_after_lem m s.step n.partial)) asks_first
           ∙ rw (u.step, u.count) (omega arith));
-      told = λ _. ap (λ (m : Move). told_after m s.told) asks-first ∙ u.told;
-      rested = λ z. ap (λ (m : Move). has_rested (step_after m s.step n.partial)) asks-first ∙ ap has_rested u.step ∙ i.rested ∙ z;
+      told = λ _. ap (λ (m : Move). told_after m s.told) asks_first ∙ u.told;
+      rested = λ z. ap (λ (m : Move). has_rested (step_after_lem m s.step n.partial)) asks_first ∙ ap has_rested u.step ∙ i.rested ∙ z;
     }
 
   -- where the network does not go down full is wanted
   module _ (called : (q : OwnHistory) → Ran n (q ++ h) → Way q → 0 < tally ticked q → has_rested (then q).step ≡ true
       → number ≤ suc (tally ticked q)) where
-    way-first : (e : Seen) (q : OwnHistory) → Ran n (e ∷ (q ++ h)) → GoodTicks number (e ∷ q) h → ticked e ≡ true → tally ticked q ≡ 0 → Way (e ∷ q)
+    way_first : (e : Seen) (q : OwnHistory) → Ran n (e ∷ (q ++ h)) → GoodTicks number (e ∷ q) h → ticked e ≡ true → tally ticked q ≡ 0 → Way (e ∷ q)
     unfolding Ran state_of
-    way-first e q r good tick k =
+    way_first e q r good tick k =
         let u = unmoved n h q r.1 (never_rest struck e q good.calm) k in
         let w : has_rested (then q).step ≡ true → (then q).wanted ≡ Mode.Full = λ z. full_number (then q).wanted
         (wanted_follows n (q ++ h) r.1 ∙ full_then number e q h good.full tick (rw (k) (i.called (ap has_rested (sym u.step) ∙ z)))) in
@@ -251,45 +251,45 @@ module _ (n : Network) (g : InRange n) (f : Distinct (controllers_of n)) (h : Ow
           restarts = λ u a z. absurd (false≢true z);
           not_taken = λ u a z. absurd (false≢true z);
           resets = λ u z. absurd (false≢true z);
-          ticks = λ _. heads-first (then q) u w q k;
+          ticks = λ _. heads_first (then q) u w q k;
         }) e r.0 tick
 
     -- and each later one goes on
-    pub way-onward : (e : Seen) (q : OwnHistory) → Ran n (q ++ h) → GoodTicks number (e ∷ q) h → ticked e ≡ true → 0 < tally ticked q → Way q
+    pub way_onward : (e : Seen) (q : OwnHistory) → Ran n (q ++ h) → GoodTicks number (e ∷ q) h → ticked e ≡ true → 0 < tally ticked q → Way q
         → Onward n (then q)
-    way-onward e q r good tick some way = onward_then n g h f number e q r good tick some (called q r way some)
+    way_onward e q r good tick some way = onward_then n g h f number e q r good tick some (called q r way some)
 
-    way-more : (e : Seen) (q : OwnHistory) → Ran n (e ∷ (q ++ h)) → GoodTicks number (e ∷ q) h → (0 < tally ticked q → Way q)
+    way_more : (e : Seen) (q : OwnHistory) → Ran n (e ∷ (q ++ h)) → GoodTicks number (e ∷ q) h → (0 < tally ticked q → Way q)
         → (b : Bool) → ticked e ≡ b → (k : ℕ) → tally ticked q ≡ k → 0 < cond b (suc k) k → Way (e ∷ q)
     unfolding Ran
-    way-more e q r good earlier true tick zero k l = way-first e q r good tick k
-    way-more e q r good earlier false tick zero k l = absurd (omega (arith, l))
-    way-more e q r good earlier b tick (suc x) k l =
+    way_more e q r good earlier true tick zero k l = way_first e q r good tick k
+    way_more e q r good earlier false tick zero k l = absurd (omega (arith, l))
+    way_more e q r good earlier b tick (suc x) k l =
         let some : 0 < tally ticked q = omega (arith, k) in
-        heads-more n g rests first.told last i.falls h e q r (never_first struck e q good.calm)
-        (λ z. way-onward e q r.1 good z some (earlier some)) (earlier some)
+        heads_more n g rests first.told last i.falls h e q r (never_first struck e q good.calm)
+        (λ z. way_onward e q r.1 good z some (earlier some)) (earlier some)
 
-    pub on-the-way : (q : OwnHistory) → Ran n (q ++ h) → GoodTicks number q h → 0 < tally ticked q → Way q
+    pub on_the_way : (q : OwnHistory) → Ran n (q ++ h) → GoodTicks number q h → 0 < tally ticked q → Way q
     unfolding Ran tally
-    on-the-way [] r good l = absurd (omega (arith, l))
-    on-the-way (e ∷ q) r good l =
-        way-more e q r good (on-the-way q r.1 (fewer_ticks number e q h good)) (ticked e) refl (tally ticked q) refl l
+    on_the_way [] r good l = absurd (omega (arith, l))
+    on_the_way (e ∷ q) r good l =
+        way_more e q r good (on_the_way q r.1 (fewer_ticks number e q h good)) (ticked e) refl (tally ticked q) refl l
 
     -- what was told stays so up to the last tick, and full is told from it on
-    pub told-down : (q : OwnHistory) → Ran n (q ++ h) → GoodTicks number q h
+    pub told_down : (q : OwnHistory) → Ran n (q ++ h) → GoodTicks number q h
         → told n (q ++ h) ≡ cond (leb last (tally ticked q)) 2 (mode_number first.told)
-    told-down q r good = by-ticks (tally ticked q) refl
+    told_down q r good = by_ticks (tally ticked q) refl
       where
-        by-ticks : (k : ℕ) → tally ticked q ≡ k → told n (q ++ h) ≡ cond (leb last (tally ticked q)) 2 (mode_number first.told)
-        by-ticks zero k =
+        by_ticks : (k : ℕ) → tally ticked q ≡ k → told n (q ++ h) ≡ cond (leb last (tally ticked q)) 2 (mode_number first.told)
+        by_ticks zero k =
             sym (told_follows n (q ++ h) r) ∙ ap mode_number (unmoved n h q r good.calm k).told
             ∙ sym (ap (λ (b : Bool). cond b 2 (mode_number first.told)) (lt-leb last (tally ticked q) (omega (arith, k))))
-        by-ticks (suc x) k = heads-told n g rests first.told last i.falls h q r (on-the-way q r good (omega (arith, k)))
+        by_ticks (suc x) k = heads_told n g rests first.told last i.falls h q r (on_the_way q r good (omega (arith, k)))
 
     -- and a tick tells full exactly if it is that one
-    pub tells-down : (t : Seen) (q : OwnHistory) → Ran n (t ∷ (q ++ h)) → GoodTicks number (t ∷ q) h → ticked t ≡ true
+    pub tells_down : (t : Seen) (q : OwnHistory) → Ran n (t ∷ (q ++ h)) → GoodTicks number (t ∷ q) h → ticked t ≡ true
         → hands 6 n.handle 2 t ≡ eqb last (tally ticked (t ∷ q))
     unfolding Ran
-    tells-down t q r good tick =
+    tells_down t q r good tick =
         told_then n g last (mode_number first.told) i.not_full t q h r tick
-        (told-down q r.1 (fewer_ticks number t q h good)) (told-down (t ∷ q) r good)
+        (told_down q r.1 (fewer_ticks number t q h good)) (told_down (t ∷ q) r good)

@@ -18,7 +18,7 @@ use Rattle.steps.specs.declared.Move.{Move}
 use Rattle.steps.specs.declared.Move.TheVariants.{Stay, AskAgain, Count, EnterFull, EnterSilent, Pass, Wait, GoDown, EnterNoCommunication, Enter}
 use Rattle.steps.specs.Steps.{up_phase, is_up, is_full_step, is_restarting}
 use Rattle.steps.specs.Decision.{decision}
-use Rattle.steps.specs.After.{first_down, step_after}
+use Rattle.steps.specs.After.{first_down, step_after_lem}
 use Rattle.steps.proofs.Laws.{numbered_is, not_restarting}
 use Rattle.handing.specs.Handing.{recovery, reset}
 use Rattle.network.specs.declared.State.{State}
@@ -34,7 +34,7 @@ use Rattle.network_demands.specs.Words.{Seen, OwnHistory, is_bus_off, fell, clea
 use Rattle.network_demands.specs.Words.{exceeds, delay_at}
 use Rattle.network_demands.specs.Own.{finished, reaches, decides, tick_after, tick_hands, recovered, reset_after, played, state_of, Fits, Ran}
 use Rattle.network_demands.proofs.Views.{either_way, seen, by_part}
-use Rattle.network_demands.proofs.Handed.{is_pass, is_enter_silent, is_wait, is_go_down, move-quiets, move-shuts, move-clears}
+use Rattle.network_demands.proofs.Handed.{is_pass, is_enter_silent, is_wait, is_go_down, move_quiets, move_shuts, move_clears}
 use Rattle.network_demands.proofs.Up.{up_means}
 use Rattle.network_demands.proofs.Follows.{state_kept}
 use Rattle.network_demands.proofs.Arrows.{suits, own_outfit, ByArrow, by_tick_arrow}
@@ -52,7 +52,7 @@ first_down_other false = refl
 
 -- in step 6 a tick leaves it by the wait or by going down; it does not enter silent, and does not say passed
 record FromSix (partial : Bool) (step : Step) (m : Move) : Type 0 where
-  next : cond (leaves m) false true ≡ is_restarting (step_after m step partial)
+  next : cond (leaves m) false true ≡ is_restarting (step_after_lem m step partial)
   not_silent : is_enter_silent m ≡ false
   not_passed : is_pass m ≡ false
 
@@ -69,7 +69,7 @@ from_six partial Mode.Full done refused reached outfit =
 
 -- any other step leads to another one
 abbrev Other : Bool → Step → Mode → Move → Type 0
-Other partial step wanted m = is_restarting step ≡ false → is_restarting (step_after m step partial) ≡ false
+Other partial step wanted m = is_restarting step ≡ false → is_restarting (step_after_lem m step partial) ≡ false
 
 other : (partial done reached : Bool) (outfit : Outfit) → ByArrow done reached outfit (Other partial)
 other partial done reached outfit = record {
@@ -97,21 +97,21 @@ other partial done reached outfit = record {
 
 -- a tick in step 6
 module _ (n : Network) (s : State) where
-  in-six : is_restarting s.step ≡ true → FromSix n.partial s.step (decides n s)
-  in-six r =
+  in_six : is_restarting s.step ≡ true → FromSix n.partial s.step (decides n s)
+  in_six r =
       subst (λ (step : Step). FromSix n.partial step
       (decision step s.wanted (finished n s) (any is_refusal (heard_of n s)) (reaches n s) (own_outfit n)))
       (sym (numbered_is 6 s.step r)) (from_six n.partial s.wanted (finished n s) (any is_refusal (heard_of n s)) (reaches n s) (own_outfit n))
 
   -- a tick in any step
-  six-after : suits (own_outfit n) s.step ≡ true → Kept n s
-      → cond (leaves (decides n s)) false (is_restarting s.step) ≡ is_restarting (step_after (decides n s) s.step n.partial)
-  six-after u k = by-test (is_restarting s.step) refl
+  six_after : suits (own_outfit n) s.step ≡ true → Kept n s
+      → cond (leaves (decides n s)) false (is_restarting s.step) ≡ is_restarting (step_after_lem (decides n s) s.step n.partial)
+  six_after u k = by_test (is_restarting s.step) refl
     where
-      by-test : (b : Bool) → is_restarting s.step ≡ b
-          → cond (leaves (decides n s)) false b ≡ is_restarting (step_after (decides n s) s.step n.partial)
-      by-test true r = (in-six r).next
-      by-test false r = sym (either_way (leaves (decides n s)) false)
+      by_test : (b : Bool) → is_restarting s.step ≡ b
+          → cond (leaves (decides n s)) false b ≡ is_restarting (step_after_lem (decides n s) s.step n.partial)
+      by_test true r = (in_six r).next
+      by_test false r = sym (either_way (leaves (decides n s)) false)
           ∙ sym (by_tick_arrow n s (Other n.partial) (other n.partial (finished n s) (reaches n s) (own_outfit n)) u k r)
 
 -- ---- numbers
@@ -137,12 +137,12 @@ least_reached AtOrAbove threshold h = omega arith
 -- the record's count stands for the true number: no threshold tells them apart, by neither relation
 pub count_compares : (r : Relation) (threshold f : ℕ) → threshold ≤ 254 → is_long r threshold (min f 255) ≡ exceeds r threshold f
 count_compares r threshold f h =
-    long_from r threshold (min f 255) ∙ by-test (leb (least_long r threshold) f) refl ∙ sym (exceeds_from r threshold f)
+    long_from r threshold (min f 255) ∙ by_test (leb (least_long r threshold) f) refl ∙ sym (exceeds_from r threshold f)
   where
-    by-test : (t : Bool) → leb (least_long r threshold) f ≡ t → leb (least_long r threshold) (min f 255) ≡ leb (least_long r threshold) f
-    by-test true e =
+    by_test : (t : Bool) → leb (least_long r threshold) f ≡ t → leb (least_long r threshold) (min f 255) ≡ leb (least_long r threshold) f
+    by_test true e =
         le-leb (least_long r threshold) (min f 255) (omega (arith, leb-true (least_long r threshold) f e, least_reached r threshold h)) ∙ sym e
-    by-test false e = lt-leb (least_long r threshold) (min f 255) (omega (arith, leb-false (least_long r threshold) f e)) ∙ sym e
+    by_test false e = lt-leb (least_long r threshold) (min f 255) (omega (arith, leb-false (least_long r threshold) f e)) ∙ sym e
 
 -- only passed makes the count 0
 count_by_lem : (m : Move) (count : ℕ) → count_after m count ≡ cond (is_pass m) 0 count
@@ -167,103 +167,103 @@ module _ (n : Network) (h : OwnHistory) (s : State) (u : up n h ≡ is_up s.step
   StillCounted e t = Counted n t (e ∷ h)
 
   -- the count over an entry that is no bus_off_lem that counts
-  count-on : (e : Seen) (clear : Bool) → cleared n e ≡ clear → counts n e h ≡ false → cond clear 0 s.count ≡ min (falls n (e ∷ h)) 255
-  count-on e true p q = ap (λ (x : ℕ). min x 255) (sym (falls_by n e h true false p q))
-  count-on e false p q = k.count ∙ ap (λ (x : ℕ). min x 255) (sym (falls_by n e h false false p q))
+  count_on : (e : Seen) (clear : Bool) → cleared n e ≡ clear → counts n e h ≡ false → cond clear 0 s.count ≡ min (falls n (e ∷ h)) 255
+  count_on e true p q = ap (λ (x : ℕ). min x 255) (sym (falls_by n e h true false p q))
+  count_on e false p q = k.count ∙ ap (λ (x : ℕ). min x 255) (sym (falls_by n e h false false p q))
 
   -- what is no bus_off_lem while up and hands out nothing
-  counted-quiet : (sight : Sight) (number : ℕ) (t : State) → is_bus_off sight && up n h ≡ false → t.step ≡ s.step → t.count ≡ s.count
+  counted_quiet : (sight : Sight) (number : ℕ) (t : State) → is_bus_off sight && up n h ≡ false → t.step ≡ s.step → t.count ≡ s.count
       → StillCounted (seen sight number []) t
   unfolding restarting any
-  counted-quiet sight number t calm same_step same_count = record {
+  counted_quiet sight number t calm same_step same_count = record {
     restarts = rw calm (k.restarts ∙ ap is_restarting (sym same_step));
-    count = same_count ∙ count-on (seen sight number []) false refl (rw calm refl);
+    count = same_count ∙ count_on (seen sight number []) false refl (rw calm refl);
   }
 
   -- a bus_off_lem while up counts exactly if it does not come in step 6, and leads there
   abbrev fall : Seen
   fall = seen a_bus_off 0 (recovery n.handle)
 
-  fall-counts : is_up s.step ≡ true → counts n fall h ≡ not (is_restarting s.step)
-  fall-counts f = rw (u ∙ f, k.restarts) refl
+  fall_counts : is_up s.step ≡ true → counts n fall h ≡ not (is_restarting s.step)
+  fall_counts f = rw (u ∙ f, k.restarts) refl
 
-  pub counted-fall : is_up s.step ≡ true → StillCounted fall (recovered s)
+  pub counted_fall : is_up s.step ≡ true → StillCounted fall (recovered s)
   unfolding restarting any recovery after_hit made_anew
-  counted-fall f = record { restarts = rw (u ∙ f) refl; count = by-test (is_restarting s.step) refl }
+  counted_fall f = record { restarts = rw (u ∙ f) refl; count = by_test (is_restarting s.step) refl }
     where
-      by-test : (b : Bool) → is_restarting s.step ≡ b → cond b s.count (raised s.count) ≡ min (falls n (fall ∷ h)) 255
-      by-test true r = count-on fall false refl (fall-counts f ∙ ap not r)
-      by-test false r = raised_min s.count (falls n h) k.count
-          ∙ ap (λ (x : ℕ). min x 255) (sym (falls_by n fall h false true refl (fall-counts f ∙ ap not r)))
+      by_test : (b : Bool) → is_restarting s.step ≡ b → cond b s.count (raised s.count) ≡ min (falls n (fall ∷ h)) 255
+      by_test true r = count_on fall false refl (fall_counts f ∙ ap not r)
+      by_test false r = raised_min s.count (falls n h) k.count
+          ∙ ap (λ (x : ℕ). min x 255) (sym (falls_by n fall h false true refl (fall_counts f ∙ ap not r)))
 
   -- a stall comes in steps 4 and 5, and leads to step 15
-  counted-reset : is_full_step s.step ≡ true → StillCounted (seen a_stall 0 (reset n.handle)) (reset_after s)
+  counted_reset : is_full_step s.step ≡ true → StillCounted (seen a_stall 0 (reset n.handle)) (reset_after s)
   unfolding restarting any reset after_hit made_anew
-  counted-reset f = record {
+  counted_reset f = record {
     restarts = k.restarts ∙ not_restarting s.step is_full_step refl f;
-    count = count-on (seen a_stall 0 (reset n.handle)) false refl refl;
+    count = count_on (seen a_stall 0 (reset n.handle)) false refl refl;
   }
 
-  counted-tick : InRange n → suits (own_outfit n) s.step ≡ true → Kept n s → StillCounted (seen a_tick 0 (tick_hands n s)) (tick_after n s)
+  counted_tick : InRange n → suits (own_outfit n) s.step ≡ true → Kept n s → StillCounted (seen a_tick 0 (tick_hands n s)) (tick_after n s)
   unfolding restarting after_move
-  counted-tick g fit kept =
+  counted_tick g fit kept =
       let m : Move = decides n s in
       let e : Seen = seen a_tick 0 (tick_hands n s) in
       record {
-        restarts = rw (move-quiets n (some_controller n g) s.step s.told m, move-shuts n s.step s.told m, k.restarts)
-            (six-after n s fit kept);
-        count = count_by_lem m s.count ∙ count-on e (is_pass m) (move-clears n s.step _ m) refl;
+        restarts = rw (move_quiets n (some_controller n g) s.step s.told m, move_shuts n s.step s.told m, k.restarts)
+            (six_after n s fit kept);
+        count = count_by_lem m s.count ∙ count_on e (is_pass m) (move_clears n s.step _ m) refl;
       }
 
-  counted-call : InRange n → suits (own_outfit n) s.step ≡ true → Kept n s → (e : Seen) → Fits n s e
+  counted_call : InRange n → suits (own_outfit n) s.step ≡ true → Kept n s → (e : Seen) → Fits n s e
       → StillCounted e (played n s e.sight).state
   unfolding after_hit made_anew
-  counted-call g fit kept = by_part n s StillCounted (record {
-    plain = λ sight number mode reported p. counted-quiet sight number _ (rw p.bus_off_lem refl) refl refl;
-    hears = λ c mode ok m l e. counted-quiet _ 0 _ refl refl refl;
-    recovers = counted-fall;
-    restarts = λ f a. counted-quiet a_bus_off 0 _ (u ∙ f) refl refl;
-    not_taken = λ f a. counted-quiet a_bus_off 0x22 _ (u ∙ f) refl refl;
-    resets = counted-reset;
-    ticks = counted-tick g fit kept;
+  counted_call g fit kept = by_part n s StillCounted (record {
+    plain = λ sight number mode reported p. counted_quiet sight number _ (rw p.bus_off_lem refl) refl refl;
+    hears = λ c mode ok m l e. counted_quiet _ 0 _ refl refl refl;
+    recovers = counted_fall;
+    restarts = λ f a. counted_quiet a_bus_off 0 _ (u ∙ f) refl refl;
+    not_taken = λ f a. counted_quiet a_bus_off 0x22 _ (u ∙ f) refl refl;
+    resets = counted_reset;
+    ticks = counted_tick g fit kept;
   })
 
   -- a bus_off_lem raises the count exactly if it counts
   abbrev Raises : Seen → State → Type 0
   Raises e t = fell e ≡ true → t.count ≡ cond (counts n e h) (min (suc s.count) 255) s.count
 
-  raises-call : (e : Seen) → Fits n s e → Raises e (played n s e.sight).state
+  raises_call : (e : Seen) → Fits n s e → Raises e (played n s e.sight).state
   unfolding after_hit made_anew
-  raises-call = by_part n s Raises (record {
+  raises_call = by_part n s Raises (record {
     plain = λ sight number mode reported p z. absurd (false≢true (sym p.bus_off_lem ∙ z));
     hears = λ c mode ok m l e z. absurd (false≢true z);
-    recovers = λ f _. rw (u ∙ f, k.restarts) (by-test (is_restarting s.step));
+    recovers = λ f _. rw (u ∙ f, k.restarts) (by_test (is_restarting s.step));
     restarts = λ f a _. rw (u ∙ f) refl;
     not_taken = λ f a _. rw (u ∙ f) refl;
     resets = λ f z. absurd (false≢true z);
     ticks = λ z. absurd (false≢true z);
   })
     where
-      by-test : (b : Bool) → cond b s.count (raised s.count) ≡ cond (not b) (min (suc s.count) 255) s.count
-      by-test true = refl
-      by-test false = raised_min s.count s.count (omega (arith, k.count))
+      by_test : (b : Bool) → cond b s.count (raised s.count) ≡ cond (not b) (min (suc s.count) 255) s.count
+      by_test true = refl
+      by_test false = raised_min s.count s.count (omega (arith, k.count))
 
   -- a bus_off_lem while up begins restarting, and while that lasts no all-clear comes
   abbrev Lasts : Seen → State → Type 0
   Lasts e t = (fell_up n e h ≡ true → restarting n (e ∷ h) ≡ true) × (restarting n h ≡ true → cleared n e ≡ false)
 
-  lasts-call : (e : Seen) → Fits n s e → Lasts e (played n s e.sight).state
+  lasts_call : (e : Seen) → Fits n s e → Lasts e (played n s e.sight).state
   unfolding restarting any recovery reset after_hit made_anew
-  lasts-call = by_part n s Lasts (record {
+  lasts_call = by_part n s Lasts (record {
     plain = λ sight number mode reported p. (λ z. absurd (false≢true (sym (ap (λ (b : Bool). b && up n h) p.bus_off_lem) ∙ z)), λ _. refl);
     hears = λ c mode ok m l e. (λ z. absurd (false≢true z), λ _. refl);
-    recovers = λ f. (λ _. (counted-fall f).restarts, λ _. refl);
+    recovers = λ f. (λ _. (counted_fall f).restarts, λ _. refl);
     restarts = λ f a. (λ z. absurd (false≢true (sym (u ∙ f) ∙ z)), λ _. refl);
     not_taken = λ f a. (λ z. absurd (false≢true (sym (u ∙ f) ∙ z)), λ _. refl);
     resets = λ f. (λ z. absurd (false≢true z), λ _. refl);
     ticks = (
       λ z. absurd (false≢true z),
-      λ r. move-clears n s.step _ (decides n s) ∙ (in-six n s (sym k.restarts ∙ r)).not_passed,
+      λ r. move_clears n s.step _ (decides n s) ∙ (in_six n s (sym k.restarts ∙ r)).not_passed,
     );
   })
 
@@ -272,7 +272,7 @@ pub counted : (n : Network) → InRange n → (h : OwnHistory) → Ran n h → C
 unfolding state_of Ran started restarting falls
 counted n g [] r = record { restarts = first_down_other n.partial; count = refl }
 counted n g (e ∷ h) r =
-    counted-call n h (state_of n h) (up_means n h r.1) (counted n g h r.1) g (stands n g h r.1).suited (state_kept n g h r.1) e r.0
+    counted_call n h (state_of n h) (up_means n h r.1) (counted n g h r.1) g (stands n g h r.1).suited (state_kept n g h r.1) e r.0
 
 -- restarting is step 6
 pub restarting_means : (n : Network) → InRange n → (h : OwnHistory) → Ran n h → restarting n h ≡ is_restarting (state_of n h).step
@@ -286,17 +286,17 @@ count_follows n g h r = (counted n g h r).count
 pub bus_off_raises : (n : Network) → InRange n → (e : Seen) (h : OwnHistory) → Ran n (e ∷ h) → fell e ≡ true
     → (state_of n (e ∷ h)).count ≡ cond (counts n e h) (min (suc (state_of n h).count) 255) (state_of n h).count
 unfolding state_of Ran
-bus_off_raises n g e h r = raises-call n h (state_of n h) (up_means n h r.1) (counted n g h r.1) e r.0
+bus_off_raises n g e h r = raises_call n h (state_of n h) (up_means n h r.1) (counted n g h r.1) e r.0
 
 -- a bus_off_lem while up begins restarting
 pub restarting_begins : (n : Network) → InRange n → (b : Seen) (h : OwnHistory) → Ran n (b ∷ h) → fell_up n b h ≡ true → restarting n (b ∷ h) ≡ true
 unfolding Ran
-restarting_begins n g b h r = (lasts-call n h (state_of n h) (up_means n h r.1) (counted n g h r.1) b r.0).0
+restarting_begins n g b h r = (lasts_call n h (state_of n h) (up_means n h r.1) (counted n g h r.1) b r.0).0
 
 -- while restarting no all-clear comes
 pub restarting_uncleared : (n : Network) → InRange n → (e : Seen) (h : OwnHistory) → Ran n (e ∷ h) → restarting n h ≡ true → cleared n e ≡ false
 unfolding Ran
-restarting_uncleared n g e h r = (lasts-call n h (state_of n h) (up_means n h r.1) (counted n g h r.1) e r.0).1
+restarting_uncleared n g e h r = (lasts_call n h (state_of n h) (up_means n h r.1) (counted n g h r.1) e r.0).1
 
 -- so the delay by the record's count is the one that a bus_off_lem at the head of the history brings
 pub delay_follows : (n : Network) → InRange n → (h : OwnHistory) (s : State) → Counted n s h → delay_of n s.count ≡ delay_at n h
@@ -308,8 +308,8 @@ delay_follows n g h s k =
 -- silent is not entered while restarting
 pub silence_settled : (n : Network) → InRange n → (h : OwnHistory) → Ran n h → is_enter_silent (decides n (state_of n h)) ≡ true
     → restarting n h ≡ false
-silence_settled n g h r z = restarting_means n g h r ∙ by-test (is_restarting (state_of n h).step) refl
+silence_settled n g h r z = restarting_means n g h r ∙ by_test (is_restarting (state_of n h).step) refl
   where
-    by-test : (b : Bool) → is_restarting (state_of n h).step ≡ b → b ≡ false
-    by-test true six = absurd (false≢true (sym (in-six n (state_of n h) six).not_silent ∙ z))
-    by-test false six = refl
+    by_test : (b : Bool) → is_restarting (state_of n h).step ≡ b → b ≡ false
+    by_test true six = absurd (false≢true (sym (in_six n (state_of n h) six).not_silent ∙ z))
+    by_test false six = refl

@@ -15,7 +15,7 @@ use Rattle.network_theorems.proofs.Kept.{start_kept}
 use Rattle.network_demands.specs.Words.{Seen, OwnHistory, wanted_by, told_by, told, wanted}
 use Rattle.network_demands.specs.Own.{decides, tick_after, tick_hands, recovered, reset_after, played, state_of, Fits, Ran}
 use Rattle.network_demands.proofs.Views.{either_way, seen, Plain, plain_state, by_part, part_kept}
-use Rattle.network_demands.proofs.Handed.{eqb_same, move-tells}
+use Rattle.network_demands.proofs.Handed.{eqb_same, move_tells}
 
 -- from the start on, in a history that ran by the rules, the record has what `Kept` says
 pub state_kept : (n : Network) → InRange n → (h : OwnHistory) → Ran n h → Kept n (state_of n h)
@@ -38,56 +38,56 @@ module _ (n : Network) (h : OwnHistory) (s : State) (k : Follows n s h) where
   abbrev StillFollows : Seen → State → Type 0
   StillFollows e t = Follows n t (e ∷ h)
 
-  follows-plain : (sight : Sight) (number : ℕ) (mode : Mode) (reported : Bool) → Plain n s sight (eqb 0 number) mode reported
+  follows_plain : (sight : Sight) (number : ℕ) (mode : Mode) (reported : Bool) → Plain n s sight (eqb 0 number) mode reported
       → StillFollows (seen sight number []) (plain_state s mode reported)
   unfolding told told_by wanted
-  follows-plain sight number mode reported p = record {
+  follows_plain sight number mode reported p = record {
     wanted = p.wanted ∙ ap (λ (before : ℕ). cond (eqb 0 number) (wanted_by sight before) before) k.wanted;
     told = k.told;
   }
 
-  follows-fall : StillFollows (seen a_bus_off 0 (recovery n.handle)) (recovered s)
+  follows_fall : StillFollows (seen a_bus_off 0 (recovery n.handle)) (recovered s)
   unfolding told wanted after_hit made_anew
-  follows-fall = record { wanted = k.wanted; told = sym (recovery_tells n (told n h)) }
+  follows_fall = record { wanted = k.wanted; told = sym (recovery_tells n (told n h)) }
 
   -- a bus_off_lem that finds the network down changes nothing that is followed
-  follows-down : (number : ℕ) (t : State) → t.wanted ≡ s.wanted → t.told ≡ s.told → StillFollows (seen a_bus_off number []) t
+  follows_down : (number : ℕ) (t : State) → t.wanted ≡ s.wanted → t.told ≡ s.told → StillFollows (seen a_bus_off number []) t
   unfolding told told_by wanted
-  follows-down number t same-wanted same-told = record {
+  follows_down number t same-wanted same-told = record {
     wanted = ap mode_number same-wanted ∙ k.wanted ∙ either_way (eqb 0 number) (wanted h);
     told = ap mode_number same-told ∙ k.told;
   }
 
   -- a stall tells silent, and does not touch the wanted mode
-  follows-reset : StillFollows (seen a_stall 0 (reset n.handle)) (reset_after s)
+  follows_reset : StillFollows (seen a_stall 0 (reset n.handle)) (reset_after s)
   unfolding told told_by wanted reset after_hit made_anew
-  follows-reset = record {
+  follows_reset = record {
     wanted = k.wanted;
     told = rw (eqb_same n.handle) refl;
   }
 
-  follows-tick : StillFollows (seen a_tick 0 (tick_hands n s)) (tick_after n s)
+  follows_tick : StillFollows (seen a_tick 0 (tick_hands n s)) (tick_after n s)
   unfolding told wanted after_move
-  follows-tick =
-      record { wanted = k.wanted; told = sym (move-tells n s.step s.told (decides n s)) ∙ ap (told_by n (tick_hands n s)) k.told }
+  follows_tick =
+      record { wanted = k.wanted; told = sym (move_tells n s.step s.told (decides n s)) ∙ ap (told_by n (tick_hands n s)) k.told }
 
-  follows-call : (e : Seen) → Fits n s e → StillFollows e (played n s e.sight).state
+  follows_call : (e : Seen) → Fits n s e → StillFollows e (played n s e.sight).state
   unfolding told told_by wanted after_hit made_anew
-  follows-call = by_part n s StillFollows (record {
-    plain = follows-plain;
+  follows_call = by_part n s StillFollows (record {
+    plain = follows_plain;
     hears = λ c mode ok m l e. record { wanted = k.wanted; told = k.told };
-    recovers = λ f. follows-fall;
-    restarts = λ f a. follows-down 0 _ refl refl;
-    not_taken = λ f a. follows-down 0x22 _ refl refl;
-    resets = λ f. follows-reset;
-    ticks = follows-tick;
+    recovers = λ f. follows_fall;
+    restarts = λ f a. follows_down 0 _ refl refl;
+    not_taken = λ f a. follows_down 0x22 _ refl refl;
+    resets = λ f. follows_reset;
+    ticks = follows_tick;
   })
 
 -- from the start on the record follows the history: its wanted mode is the mode last wanted, its told mode the mode last told
 pub follows : (n : Network) (h : OwnHistory) → Ran n h → Follows n (state_of n h) h
 unfolding state_of Ran started told wanted
 follows n [] r = record { wanted = refl; told = refl }
-follows n (e ∷ h) r = follows-call n h (state_of n h) (follows n h r.1) e r.0
+follows n (e ∷ h) r = follows_call n h (state_of n h) (follows n h r.1) e r.0
 
 -- each of them by itself
 pub wanted_follows : (n : Network) (h : OwnHistory) → Ran n h → mode_number (state_of n h).wanted ≡ wanted h

@@ -19,7 +19,7 @@ use Rattle.handing.specs.Handing.{round_record, errand_record, requests, move_re
 use Rattle.network.specs.declared.Report.{Report}
 use Rattle.network.specs.Answers.{awaits}
 use Rattle.network_demands.specs.Words.{is}
-use Rattle.network_demands.proofs.Handed.{eqb_same, eqb_swap, none_of_each, names_each, Verdict, given, move-given}
+use Rattle.network_demands.proofs.Handed.{eqb_same, eqb_swap, none_of_each, names_each, Verdict, given, move_given}
 
 -- a test that only requests pass
 abbrev pub of_requests : (Ask → Bool) → Verdict
@@ -37,10 +37,10 @@ awaits_started Ask.CheckWake = refl
 
 module _ (n : Network) where
   -- a request is of none of the kinds 3, 6, 7 and 8
-  request-given : (kind target argument : ℕ) (asks : Ask → Bool) → ((ask : Ask) → any (is kind target argument) (requests ask n) ≡ asks ask)
+  request_given : (kind target argument : ℕ) (asks : Ask → Bool) → ((ask : Ask) → any (is kind target argument) (requests ask n) ≡ asks ask)
       → eqb kind 3 ≡ false → eqb kind 6 ≡ false → eqb kind 7 ≡ false → eqb kind 8 ≡ false → (step : Step) (told : Mode) (m : Move)
       → any (is kind target argument) (move_records n step told m) ≡ given (of_requests asks) n.partial step told m
-  request-given kind target argument asks same three six seven eight = move-given n (is kind target argument) (of_requests asks) (record {
+  request_given kind target argument asks same three six seven eight = move_given n (is kind target argument) (of_requests asks) (record {
     asks = same;
     pdus = λ pdu. none_of_each (is kind target argument) (round_record (Round.Pdu pdu)) (λ id. rw three refl) (controllers_of n);
     tells = λ mode. rw six refl;
@@ -50,94 +50,94 @@ module _ (n : Network) where
 
   -- ---- kind 1: a controller is asked for a mode by just the requests for this mode
   module _ (c mode : ℕ) where
-    abbrev pub controllerSays : Verdict
-    controllerSays = of_requests (λ (ask : Ask). awaits ask (Report.Controller mode) && member c (controllers_of n))
+    abbrev pub controller_says : Verdict
+    controller_says = of_requests (λ (ask : Ask). awaits ask (Report.Controller mode) && member c (controllers_of n))
 
-    controller-asks : (ask : Ask) → any (is 1 c mode) (requests ask n) ≡ awaits ask (Report.Controller mode) && member c (controllers_of n)
+    controller_asks : (ask : Ask) → any (is 1 c mode) (requests ask n) ≡ awaits ask (Report.Controller mode) && member c (controllers_of n)
     unfolding requests any
-    controller-asks Ask.Nothing = refl
-    controller-asks (Ask.Controllers asked) =
+    controller_asks Ask.Nothing = refl
+    controller_asks (Ask.Controllers asked) =
         names_each (is 1 c mode) (round_record (Round.Request asked)) (eqb (controller_number asked) mode) c
         (λ x. rw (eqb_swap mode (controller_number asked)) refl) (controllers_of n)
-    controller-asks (Ask.Transceiver asked) = none_of_each (is 1 c mode) (errand_record (Errand.Mode asked)) (λ id. refl) (listed n.transceiver)
-    controller-asks Ask.ClearWake = none_of_each (is 1 c mode) (errand_record Errand.Clear) (λ id. refl) (listed n.transceiver)
-    controller-asks Ask.CheckWake = none_of_each (is 1 c mode) (errand_record Errand.Check) (λ id. refl) (listed n.transceiver)
+    controller_asks (Ask.Transceiver asked) = none_of_each (is 1 c mode) (errand_record (Errand.Mode asked)) (λ id. refl) (listed n.transceiver)
+    controller_asks Ask.ClearWake = none_of_each (is 1 c mode) (errand_record Errand.Clear) (λ id. refl) (listed n.transceiver)
+    controller_asks Ask.CheckWake = none_of_each (is 1 c mode) (errand_record Errand.Check) (λ id. refl) (listed n.transceiver)
 
-    pub controller-given : (step : Step) (told : Mode) (m : Move) →
-        any (is 1 c mode) (move_records n step told m) ≡ given controllerSays n.partial step told m
-    controller-given = request-given 1 c mode _ controller-asks refl refl refl refl
+    pub controller_given : (step : Step) (told : Mode) (m : Move) →
+        any (is 1 c mode) (move_records n step told m) ≡ given controller_says n.partial step told m
+    controller_given = request_given 1 c mode _ controller_asks refl refl refl refl
 
   -- asked to start are the network's controllers, by just the requests to start
-  pub start-asks : (c : ℕ) (ask : Ask) → any (is 1 c 1) (requests ask n) ≡ asks_to_start ask && member c (controllers_of n)
-  start-asks c ask = controller-asks c 1 ask ∙ rw (awaits_started ask) refl
+  pub start_asks : (c : ℕ) (ask : Ask) → any (is 1 c 1) (requests ask n) ≡ asks_to_start ask && member c (controllers_of n)
+  start_asks c ask = controller_asks c 1 ask ∙ rw (awaits_started ask) refl
 
-  pub start-given : (c : ℕ) → member c (controllers_of n) ≡ true → (step : Step) (told : Mode) (m : Move) →
+  pub start_given : (c : ℕ) → member c (controllers_of n) ≡ true → (step : Step) (told : Mode) (m : Move) →
       any (is 1 c 1) (move_records n step told m) ≡ given (of_requests asks_to_start) n.partial step told m
-  start-given c own =
-      request-given 1 c 1 asks_to_start (λ ask. start-asks c ask ∙ rw own (and-true _)) refl refl refl refl
+  start_given c own =
+      request_given 1 c 1 asks_to_start (λ ask. start_asks c ask ∙ rw own (and-true _)) refl refl refl refl
 
   -- ---- kinds 2, 4 and 5: the transceiver is asked by just the requests for what is to be reported
   module _ (t : ℕ) (present : n.transceiver ≡ Transceiver.Present t) where
     -- a request to the transceiver, by the test of its kind and argument
-    errand-asks : (p : Record → Bool) (errand : Errand) (b : Bool) → p (errand_record errand t) ≡ b && eqb t t
+    errand_asks : (p : Record → Bool) (errand : Errand) (b : Bool) → p (errand_record errand t) ≡ b && eqb t t
         → any p (map (errand_record errand) (listed n.transceiver)) ≡ b
     unfolding any
-    errand-asks p errand b e = rw present (or-false _ ∙ e ∙ rw (eqb_same t) (and-true b))
+    errand_asks p errand b e = rw present (or-false _ ∙ e ∙ rw (eqb_same t) (and-true b))
 
-    no-round : (kind argument : ℕ) → eqb kind 1 ≡ false → (mode : ControllerMode) →
+    no_round : (kind argument : ℕ) → eqb kind 1 ≡ false → (mode : ControllerMode) →
         any (is kind t argument) (map (round_record (Round.Request mode)) (controllers_of n)) ≡ false
-    no-round kind argument e mode = none_of_each (is kind t argument) (round_record (Round.Request mode)) (λ id. rw e refl) (controllers_of n)
+    no_round kind argument e mode = none_of_each (is kind t argument) (round_record (Round.Request mode)) (λ id. rw e refl) (controllers_of n)
 
-    transceiver-asks : (mode : ℕ) (ask : Ask) → any (is 2 t mode) (requests ask n) ≡ awaits ask (Report.Transceiver mode)
+    transceiver_asks : (mode : ℕ) (ask : Ask) → any (is 2 t mode) (requests ask n) ≡ awaits ask (Report.Transceiver mode)
     unfolding requests any
-    transceiver-asks mode Ask.Nothing = refl
-    transceiver-asks mode (Ask.Controllers asked) = no-round 2 mode refl asked
-    transceiver-asks mode (Ask.Transceiver asked) =
-        errand-asks (is 2 t mode) (Errand.Mode asked) (eqb (transceiver_number asked) mode) (rw (eqb_swap mode (transceiver_number asked)) refl)
-    transceiver-asks mode Ask.ClearWake = none_of_each (is 2 t mode) (errand_record Errand.Clear) (λ id. refl) (listed n.transceiver)
-    transceiver-asks mode Ask.CheckWake = none_of_each (is 2 t mode) (errand_record Errand.Check) (λ id. refl) (listed n.transceiver)
+    transceiver_asks mode Ask.Nothing = refl
+    transceiver_asks mode (Ask.Controllers asked) = no_round 2 mode refl asked
+    transceiver_asks mode (Ask.Transceiver asked) =
+        errand_asks (is 2 t mode) (Errand.Mode asked) (eqb (transceiver_number asked) mode) (rw (eqb_swap mode (transceiver_number asked)) refl)
+    transceiver_asks mode Ask.ClearWake = none_of_each (is 2 t mode) (errand_record Errand.Clear) (λ id. refl) (listed n.transceiver)
+    transceiver_asks mode Ask.CheckWake = none_of_each (is 2 t mode) (errand_record Errand.Check) (λ id. refl) (listed n.transceiver)
 
-    clear-asks : (ask : Ask) → any (is 4 t 0) (requests ask n) ≡ awaits ask Report.Cleared
+    clear_asks : (ask : Ask) → any (is 4 t 0) (requests ask n) ≡ awaits ask Report.Cleared
     unfolding requests any
-    clear-asks Ask.Nothing = refl
-    clear-asks (Ask.Controllers asked) = no-round 4 0 refl asked
-    clear-asks (Ask.Transceiver asked) = none_of_each (is 4 t 0) (errand_record (Errand.Mode asked)) (λ id. refl) (listed n.transceiver)
-    clear-asks Ask.ClearWake = errand-asks (is 4 t 0) Errand.Clear true refl
-    clear-asks Ask.CheckWake = none_of_each (is 4 t 0) (errand_record Errand.Check) (λ id. refl) (listed n.transceiver)
+    clear_asks Ask.Nothing = refl
+    clear_asks (Ask.Controllers asked) = no_round 4 0 refl asked
+    clear_asks (Ask.Transceiver asked) = none_of_each (is 4 t 0) (errand_record (Errand.Mode asked)) (λ id. refl) (listed n.transceiver)
+    clear_asks Ask.ClearWake = errand_asks (is 4 t 0) Errand.Clear true refl
+    clear_asks Ask.CheckWake = none_of_each (is 4 t 0) (errand_record Errand.Check) (λ id. refl) (listed n.transceiver)
 
-    check-asks : (ask : Ask) → any (is 5 t 0) (requests ask n) ≡ awaits ask Report.Checked
+    check_asks : (ask : Ask) → any (is 5 t 0) (requests ask n) ≡ awaits ask Report.Checked
     unfolding requests any
-    check-asks Ask.Nothing = refl
-    check-asks (Ask.Controllers asked) = no-round 5 0 refl asked
-    check-asks (Ask.Transceiver asked) = none_of_each (is 5 t 0) (errand_record (Errand.Mode asked)) (λ id. refl) (listed n.transceiver)
-    check-asks Ask.ClearWake = none_of_each (is 5 t 0) (errand_record Errand.Clear) (λ id. refl) (listed n.transceiver)
-    check-asks Ask.CheckWake = errand-asks (is 5 t 0) Errand.Check true refl
+    check_asks Ask.Nothing = refl
+    check_asks (Ask.Controllers asked) = no_round 5 0 refl asked
+    check_asks (Ask.Transceiver asked) = none_of_each (is 5 t 0) (errand_record (Errand.Mode asked)) (λ id. refl) (listed n.transceiver)
+    check_asks Ask.ClearWake = none_of_each (is 5 t 0) (errand_record Errand.Clear) (λ id. refl) (listed n.transceiver)
+    check_asks Ask.CheckWake = errand_asks (is 5 t 0) Errand.Check true refl
 
   -- a request is handed out by just the moves that ask for what it asks; of the four kinds only what answers it differs
   abbrev pub Requested : ℕ → ℕ → ℕ → Report → Type 0
   Requested kind target argument report = (step : Step) (told : Mode) (m : Move) → any (is kind target argument) (move_records n step told m)
       ≡ given (of_requests (λ (ask : Ask). awaits ask report)) n.partial step told m
 
-  pub controller-requested : (c mode : ℕ) → member c (controllers_of n) ≡ true → Requested 1 c mode (Report.Controller mode)
-  controller-requested c mode own =
-      request-given 1 c mode _ (λ ask. controller-asks c mode ask ∙ rw own (and-true _)) refl refl refl refl
+  pub controller_requested : (c mode : ℕ) → member c (controllers_of n) ≡ true → Requested 1 c mode (Report.Controller mode)
+  controller_requested c mode own =
+      request_given 1 c mode _ (λ ask. controller_asks c mode ask ∙ rw own (and-true _)) refl refl refl refl
 
-  pub transceiver-requested : (t mode : ℕ) → n.transceiver ≡ Transceiver.Present t → Requested 2 t mode (Report.Transceiver mode)
-  transceiver-requested t mode present = request-given 2 t mode _ (transceiver-asks t present mode) refl refl refl refl
+  pub transceiver_requested : (t mode : ℕ) → n.transceiver ≡ Transceiver.Present t → Requested 2 t mode (Report.Transceiver mode)
+  transceiver_requested t mode present = request_given 2 t mode _ (transceiver_asks t present mode) refl refl refl refl
 
-  pub clear-requested : (t : ℕ) → n.transceiver ≡ Transceiver.Present t → Requested 4 t 0 Report.Cleared
-  clear-requested t present = request-given 4 t 0 _ (clear-asks t present) refl refl refl refl
+  pub clear_requested : (t : ℕ) → n.transceiver ≡ Transceiver.Present t → Requested 4 t 0 Report.Cleared
+  clear_requested t present = request_given 4 t 0 _ (clear_asks t present) refl refl refl refl
 
-  pub check-requested : (t : ℕ) → n.transceiver ≡ Transceiver.Present t → Requested 5 t 0 Report.Checked
-  check-requested t present = request-given 5 t 0 _ (check-asks t present) refl refl refl refl
+  pub check_requested : (t : ℕ) → n.transceiver ≡ Transceiver.Present t → Requested 5 t 0 Report.Checked
+  check_requested t present = request_given 5 t 0 _ (check_asks t present) refl refl refl refl
 
   -- all of kind 1
-  abbrev pub roundSays : Verdict
-  roundSays = of_requests (λ (ask : Ask). any (λ (r : Record). eqb 1 r.kind) (requests ask n))
+  abbrev pub round_says : Verdict
+  round_says = of_requests (λ (ask : Ask). any (λ (r : Record). eqb 1 r.kind) (requests ask n))
 
-  pub round-given : (step : Step) (told : Mode) (m : Move) →
-      any (λ (r : Record). eqb 1 r.kind) (move_records n step told m) ≡ given roundSays n.partial step told m
-  round-given = move-given n (λ (r : Record). eqb 1 r.kind) roundSays (record {
+  pub round_given : (step : Step) (told : Mode) (m : Move) →
+      any (λ (r : Record). eqb 1 r.kind) (move_records n step told m) ≡ given round_says n.partial step told m
+  round_given = move_given n (λ (r : Record). eqb 1 r.kind) round_says (record {
     asks = λ ask. refl;
     pdus = λ pdu. none_of_each (λ (r : Record). eqb 1 r.kind) (round_record (Round.Pdu pdu)) (λ id. refl) (controllers_of n);
     tells = λ mode. refl;

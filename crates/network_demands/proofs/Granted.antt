@@ -3,7 +3,7 @@
 use Rattle.lists.proofs.Basics.{ℕ, zero, suc, ◌<◌, arith, eqb-true, ltb-false, ◌≡◌, refl, sym, ap, subst, ◌∙◌, List, [], ◌∷◌, ◌++◌, Bool, true, false}
 use Rattle.lists.proofs.Basics.{cond, not, ◌&&◌, ◌||◌, or-true, false≢true, true≢false, eqb, ltb}
 use Rattle.lists.specs.Lists.{any, every}
-use Rattle.lists.proofs.Any.{and_both, every-cons}
+use Rattle.lists.proofs.Any.{and_both, every_cons}
 use Rattle.records.specs.declared.Record.{Record}
 use Rattle.records.specs.declared.ControllerMode.{ControllerMode}
 use Rattle.records.specs.declared.TransceiverMode.{TransceiverMode}
@@ -19,7 +19,7 @@ use Rattle.steps.specs.declared.Ask.{Ask}
 use Rattle.steps.specs.declared.Outfit.{Outfit}
 use Rattle.steps.specs.declared.Move.{Move}
 use Rattle.steps.specs.Steps.{asks_for, is_ask, is_asking}
-use Rattle.steps.specs.After.{step_after}
+use Rattle.steps.specs.After.{step_after_lem}
 use Rattle.network.specs.declared.LastAnswer.{LastAnswer}
 use Rattle.network.specs.declared.Heard.{Heard}
 use Rattle.network.specs.declared.Report.{Report}
@@ -34,14 +34,14 @@ use Rattle.network_demands.specs.Words.{is, Seen, OwnHistory, never, tally, is_a
 use Rattle.network_demands.specs.Own.{finished, tick_after, tick_hands, played, state_of, Fits, Ran}
 use Rattle.network_demands.specs.Words.{is_request, reports_on, report_seen, granted, last_handed, all_granted}
 use Rattle.network_demands.proofs.Views.{seen, heard_state, plain_state, Plain, takes_sight, by_part}
-use Rattle.network_demands.proofs.Tests.{is_errand, once_asked, finished-just, finished-reported}
+use Rattle.network_demands.proofs.Tests.{is_errand, once_asked, finished_just, finished_reported}
 use Rattle.network_demands.proofs.Handed.{eqb_same}
-use Rattle.network_demands.proofs.Given.{Requested, controller-requested, transceiver-requested, clear-requested, check-requested}
+use Rattle.network_demands.proofs.Given.{Requested, controller_requested, transceiver_requested, clear_requested, check_requested}
 use Rattle.network_demands.proofs.Slots.{each_member, said_okay, okay_own, okay_other, all_okay}
 use Rattle.network_demands.proofs.Follows.{state_kept}
 use Rattle.network_demands.proofs.Second.{never_first, never_rest}
 use Rattle.network_demands.proofs.Arrows.{suits_ask, suits, own_outfit, by_tick_arrow}
-use Rattle.network_demands.proofs.Standing.{stands, awaited-takes}
+use Rattle.network_demands.proofs.Standing.{stands, awaited_takes}
 
 -- ---- a request and what answers it
 -- one of the kinds 2, 4 and 5, and the one report that grants it
@@ -50,31 +50,31 @@ record GrantedBy (kind argument : ℕ) (report : Report) : Type 0 where
   just : (r : Report) → reports_on kind argument r ≡ true → r ≡ report
 
 transceiver_granted : (mode : ℕ) → GrantedBy 2 mode (Report.Transceiver mode)
-transceiver_granted mode = record { errand = refl; just = λ r e. by-report r e }
+transceiver_granted mode = record { errand = refl; just = λ r e. by_report r e }
   where
-    by-report : (r : Report) → reports_on 2 mode r ≡ true → r ≡ Report.Transceiver mode
-    by-report (Report.Controller other) e = absurd (false≢true e)
-    by-report (Report.Transceiver other) e = ap Report.Transceiver (sym (eqb-true mode other e))
-    by-report Report.Cleared e = absurd (false≢true e)
-    by-report Report.Checked e = absurd (false≢true e)
+    by_report : (r : Report) → reports_on 2 mode r ≡ true → r ≡ Report.Transceiver mode
+    by_report (Report.Controller other) e = absurd (false≢true e)
+    by_report (Report.Transceiver other) e = ap Report.Transceiver (sym (eqb-true mode other e))
+    by_report Report.Cleared e = absurd (false≢true e)
+    by_report Report.Checked e = absurd (false≢true e)
 
 clear_granted : GrantedBy 4 0 Report.Cleared
-clear_granted = record { errand = refl; just = λ r e. by-report r e }
+clear_granted = record { errand = refl; just = λ r e. by_report r e }
   where
-    by-report : (r : Report) → reports_on 4 0 r ≡ true → r ≡ Report.Cleared
-    by-report (Report.Controller other) e = absurd (false≢true e)
-    by-report (Report.Transceiver other) e = absurd (false≢true e)
-    by-report Report.Cleared e = refl
-    by-report Report.Checked e = absurd (false≢true e)
+    by_report : (r : Report) → reports_on 4 0 r ≡ true → r ≡ Report.Cleared
+    by_report (Report.Controller other) e = absurd (false≢true e)
+    by_report (Report.Transceiver other) e = absurd (false≢true e)
+    by_report Report.Cleared e = refl
+    by_report Report.Checked e = absurd (false≢true e)
 
 check_granted : GrantedBy 5 0 Report.Checked
-check_granted = record { errand = refl; just = λ r e. by-report r e }
+check_granted = record { errand = refl; just = λ r e. by_report r e }
   where
-    by-report : (r : Report) → reports_on 5 0 r ≡ true → r ≡ Report.Checked
-    by-report (Report.Controller other) e = absurd (false≢true e)
-    by-report (Report.Transceiver other) e = absurd (false≢true e)
-    by-report Report.Cleared e = absurd (false≢true e)
-    by-report Report.Checked e = refl
+    by_report : (r : Report) → reports_on 5 0 r ≡ true → r ≡ Report.Checked
+    by_report (Report.Controller other) e = absurd (false≢true e)
+    by_report (Report.Transceiver other) e = absurd (false≢true e)
+    by_report Report.Cleared e = absurd (false≢true e)
+    by_report Report.Checked e = refl
 
 -- it is the report that is seen
 report_seen_lem : (kind argument : ℕ) (report : Report) → GrantedBy kind argument report → (sight : Sight) → report_seen kind argument sight ≡ true
@@ -123,48 +123,48 @@ module _ (n : Network) (g : InRange n) (s : State) (kept : Kept n s) (q : OwnHis
   unfolding takes_report
   takes report a = rw (i.asked (awaits_asks (asks_for s.step) report a), a) refl
 
-  awaits-own : (mode : ControllerMode) → asks_for s.step ≡ Ask.Controllers mode
+  awaits_own : (mode : ControllerMode) → asks_for s.step ≡ Ask.Controllers mode
       → awaits (asks_for s.step) (Report.Controller (controller_number mode)) ≡ true
-  awaits-own mode a = ap (λ (ask : Ask). awaits ask (Report.Controller (controller_number mode))) a ∙ eqb_same (controller_number mode)
+  awaits_own mode a = ap (λ (ask : Ask). awaits ask (Report.Controller (controller_number mode))) a ∙ eqb_same (controller_number mode)
 
   module _ (sight : Sight) (number : ℕ) (wanted : Mode) (reported : Bool) (p : Plain n s sight (eqb 0 number) wanted reported)
       (taken : (report : Report) → sight ≡ a_report report → takes_report s report ≡ true → eqb 0 number ≡ true) where
-    plain-okay : (mode : ControllerMode) → asks_for s.step ≡ Ask.Controllers mode → (c : ℕ) → member c (controllers_of n) ≡ true
+    plain_okay : (mode : ControllerMode) → asks_for s.step ≡ Ask.Controllers mode → (c : ℕ) → member c (controllers_of n) ≡ true
         → granted (handed 1 c (controller_number mode)) (seen sight number [] ∷ q) ≡ true → said_okay n s.answers c ≡ true
     unfolding granted
-    plain-okay mode a c own f =
+    plain_okay mode a c own f =
         by_answer (is_answer_on c (controller_number mode) 1 sight) (is_answer_on c (controller_number mode) 0 sight) refl
         (rw (p.tick, no_report (controller_number mode) sight) at f)
       where
         by_answer : (said denied : Bool) → is_answer_on c (controller_number mode) 1 sight ≡ said
             → cond (said || false) true (cond denied false (granted (handed 1 c (controller_number mode)) q)) ≡ true → said_okay n s.answers c ≡ true
         by_answer true denied e f =
-            absurd (true≢false (sym (takes (Report.Controller (controller_number mode)) (awaits-own mode a)) ∙ p.deaf c mode own e))
+            absurd (true≢false (sym (takes (Report.Controller (controller_number mode)) (awaits_own mode a)) ∙ p.deaf c mode own e))
         by_answer false true e f = absurd (false≢true f)
         by_answer false false e f = i.okay mode a c own f
 
-    plain-reported : (kind argument : ℕ) (report : Report) (t : ℕ) → GrantedBy kind argument report → awaits (asks_for s.step) report ≡ true
+    plain_reported : (kind argument : ℕ) (report : Report) (t : ℕ) → GrantedBy kind argument report → awaits (asks_for s.step) report ≡ true
         → granted (handed kind t argument) (seen sight number [] ∷ q) ≡ true → reported ≡ true
     unfolding granted
-    plain-reported kind argument report t b a f =
-        p.reports ∙ by-report (report_seen kind argument sight) refl (rw (p.tick, b.errand) at f)
+    plain_reported kind argument report t b a f =
+        p.reports ∙ by_report (report_seen kind argument sight) refl (rw (p.tick, b.errand) at f)
       where
-        by-report : (said : Bool) → report_seen kind argument sight ≡ said → cond said true (granted (handed kind t argument) q) ≡ true
+        by_report : (said : Bool) → report_seen kind argument sight ≡ said → cond said true (granted (handed kind t argument) q) ≡ true
             → s.reported || (takes_sight s sight && eqb 0 number) ≡ true
-        by-report true e f =
+        by_report true e f =
             let same = report_seen_lem kind argument report b sight e in
             let does = takes report a in
             rw (same, does, taken report same does) (or-true s.reported)
-        by-report false e f = rw (i.reported kind argument report t b a f) refl
+        by_report false e f = rw (i.reported kind argument report t b a f) refl
 
-    ready-plain : Ready n (plain_state s wanted reported) (seen sight number [] ∷ q)
-    ready-plain = record { asked = i.asked; okay = plain-okay; reported = plain-reported }
+    ready_plain : Ready n (plain_state s wanted reported) (seen sight number [] ∷ q)
+    ready_plain = record { asked = i.asked; okay = plain_okay; reported = plain_reported }
 
   module _ (c k ok : ℕ) (own : member c (controllers_of n) ≡ true) (l : ltb 1 ok ≡ false) (t : takes_report s (Report.Controller k) ≡ true) where
-    heard-okay : (mode : ControllerMode) → asks_for s.step ≡ Ask.Controllers mode → (d : ℕ) → member d (controllers_of n) ≡ true
+    heard_okay : (mode : ControllerMode) → asks_for s.step ≡ Ask.Controllers mode → (d : ℕ) → member d (controllers_of n) ≡ true
         → granted (handed 1 d (controller_number mode)) (seen (an_answer c k ok) 0 [] ∷ q) ≡ true → said_okay n (heard_state n s c ok).answers d ≡ true
     unfolding granted takes_report
-    heard-okay mode a d m f = by-own (eqb d c) refl (rw (same) at f)
+    heard_okay mode a d m f = by_own (eqb d c) refl (rw (same) at f)
       where
         same : eqb (controller_number mode) k ≡ true
         same = rw (i.asked (rw a refl), a) at t
@@ -176,25 +176,25 @@ module _ (n : Network) (g : InRange n) (s : State) (kept : Kept n s) (q : OwnHis
         said (suc zero) v o = refl
         said (suc (suc value)) v o = absurd (omega (arith, ltb-false 1 (suc (suc value)) v))
 
-        by-own : (b : Bool) → eqb d c ≡ b → cond ((b && eqb 1 ok) || false) true (cond (b && eqb 0 ok) false
+        by_own : (b : Bool) → eqb d c ≡ b → cond ((b && eqb 1 ok) || false) true (cond (b && eqb 0 ok) false
             (granted (handed 1 d (controller_number mode)) q)) ≡ true → said_okay n (heard_state n s c ok).answers d ≡ true
-        by-own true e z =
+        by_own true e z =
             subst (λ (x : ℕ). said_okay n (heard_state n s c ok).answers x ≡ true) (sym (eqb-true d c e))
             (okay_own n s g kept c (heard (answer_of (eqb ok 1))) own ∙ said ok l z)
-        by-own false e z = okay_other n s.answers d c (heard (answer_of (eqb ok 1))) e m own ∙ i.okay mode a d m z
+        by_own false e z = okay_other n s.answers d c (heard (answer_of (eqb ok 1))) e m own ∙ i.okay mode a d m z
 
-    heard-reported : (kind argument : ℕ) (report : Report) (t : ℕ) → GrantedBy kind argument report → awaits (asks_for s.step) report ≡ true
+    heard_reported : (kind argument : ℕ) (report : Report) (t : ℕ) → GrantedBy kind argument report → awaits (asks_for s.step) report ≡ true
         → granted (handed kind t argument) (seen (an_answer c k ok) 0 [] ∷ q) ≡ true → s.reported ≡ true
     unfolding granted
-    heard-reported kind argument report t b a f = i.reported kind argument report t b a (rw b.errand at f)
+    heard_reported kind argument report t b a f = i.reported kind argument report t b a (rw b.errand at f)
 
-    ready-heard : Ready n (heard_state n s c ok) (seen (an_answer c k ok) 0 [] ∷ q)
-    ready-heard = record { asked = i.asked; okay = heard-okay; reported = heard-reported }
+    ready_heard : Ready n (heard_state n s c ok) (seen (an_answer c k ok) 0 [] ∷ q)
+    ready_heard = record { asked = i.asked; okay = heard_okay; reported = heard_reported }
 
   -- a bus_off_lem that is refused
-  ready-struck-not : Ready n s (seen a_bus_off 0x22 [] ∷ q)
+  ready_struck_not : Ready n s (seen a_bus_off 0x22 [] ∷ q)
   unfolding granted
-  ready-struck-not = record {
+  ready_struck_not = record {
     asked = i.asked;
     okay = λ mode a c own f. i.okay mode a c own f;
     reported = λ kind argument report t b a f. i.reported kind argument report t b a (rw b.errand at f);
@@ -203,7 +203,7 @@ module _ (n : Network) (g : InRange n) (s : State) (kept : Kept n s) (q : OwnHis
 -- ---- ticks
 -- after a tick, a step that asks has asked
 abbrev AsksAfter : Bool → Bool → Step → Mode → Move → Type 0
-AsksAfter partial asked step wanted m = is_asking (step_after m step partial) ≡ true → asks_after m asked ≡ true
+AsksAfter partial asked step wanted m = is_asking (step_after_lem m step partial) ≡ true → asks_after m asked ≡ true
 
 ready_tick : (n : Network) (s : State) (q : OwnHistory) → suits (own_outfit n) s.step ≡ true → Kept n s
     → Ready n (tick_after n s) (seen a_tick 0 (tick_hands n s) ∷ q)
@@ -269,18 +269,18 @@ report_accepted n s e f report same does =
 -- ---- all that is seen
 module _ (n : Network) (g : InRange n) (h : OwnHistory) where
   -- an entry more, where one before it was a tick or it is one
-  ready-more : (e : Seen) (q : OwnHistory) → Ran n (e ∷ (q ++ h)) → struck e ≡ false → (ticked e ≡ false → Ready n (state_of n (q ++ h)) q)
+  ready_more : (e : Seen) (q : OwnHistory) → Ran n (e ∷ (q ++ h)) → struck e ≡ false → (ticked e ≡ false → Ready n (state_of n (q ++ h)) q)
       → Ready n (state_of n (e ∷ (q ++ h))) (e ∷ q)
   unfolding Ran state_of
-  ready-more e q r calm i =
+  ready_more e q r calm i =
       by_part n s (λ e t. struck e ≡ false → (ticked e ≡ false → Ready n s q)
       → ((report : Report) → e.sight ≡ a_report report → takes_report s report ≡ true → accepted e ≡ true) → Ready n t (e ∷ q))
       (record {
-        plain = λ sight number mode reported p _ i taken. ready-plain n g s kept q (i p.tick) sight number mode reported p taken;
-        hears = λ c mode ok m l t _ i _. ready-heard n g s kept q (i refl) c mode ok m l t;
+        plain = λ sight number mode reported p _ i taken. ready_plain n g s kept q (i p.tick) sight number mode reported p taken;
+        hears = λ c mode ok m l t _ i _. ready_heard n g s kept q (i refl) c mode ok m l t;
         recovers = λ u calm _ _. absurd (true≢false calm);
         restarts = λ u a calm _ _. absurd (true≢false calm);
-        not_taken = λ u a _ i _. ready-struck-not n g s kept q (i refl);
+        not_taken = λ u a _ i _. ready_struck_not n g s kept q (i refl);
         resets = λ u calm _ _. absurd (true≢false calm);
         ticks = λ _ _ _. ready_tick n s q (stands n g (q ++ h) r.1).suited kept;
       }) e r.0 calm i (report_accepted n s e r.0)
@@ -295,23 +295,23 @@ module _ (n : Network) (g : InRange n) (h : OwnHistory) where
   unfolding Ran tally
   ready [] r calm l = absurd (omega (arith, l))
   ready (e ∷ q) r calm l =
-      ready-more e q r (never_first struck e q calm)
+      ready_more e q r (never_first struck e q calm)
       (λ t. ready q r.1 (never_rest struck e q calm) (subst (λ (b : Bool). 0 < cond b (suc (tally ticked q)) (tally ticked q)) t l))
 
   -- what stands asked for was handed out by the last tick of q
-  handed-last : (kind target argument : ℕ) (q : OwnHistory) → never struck q → 0 < tally ticked q
+  handed_last : (kind target argument : ℕ) (q : OwnHistory) → never struck q → 0 < tally ticked q
       → awaited kind target argument (q ++ h) ≡ any (is kind target argument) (last_handed q)
   unfolding tally awaited last_handed
-  handed-last kind target argument [] calm l = absurd (omega (arith, l))
-  handed-last kind target argument (e ∷ q) calm l =
-      rw (never_first struck e q calm) (by-test (ticked e) l (handed-last kind target argument q (never_rest struck e q calm)))
+  handed_last kind target argument [] calm l = absurd (omega (arith, l))
+  handed_last kind target argument (e ∷ q) calm l =
+      rw (never_first struck e q calm) (by_test (ticked e) l (handed_last kind target argument q (never_rest struck e q calm)))
     where
-      by-test : (b : Bool) → 0 < cond b (suc (tally ticked q)) (tally ticked q)
+      by_test : (b : Bool) → 0 < cond b (suc (tally ticked q)) (tally ticked q)
           → (0 < tally ticked q → awaited kind target argument (q ++ h) ≡ any (is kind target argument) (last_handed q))
           → cond b (any (is kind target argument) e.records) (awaited kind target argument (q ++ h))
           ≡ any (is kind target argument) (cond b e.records (last_handed q))
-      by-test true l earlier = refl
-      by-test false l earlier = earlier l
+      by_test true l earlier = refl
+      by_test false l earlier = earlier l
 
 -- a test that all records pass is passed by one that is among them
 every_request : (p : Record → Bool) (kind target argument : ℕ) (l : List Record) → every p l ≡ true → any (is kind target argument) l ≡ true
@@ -319,16 +319,16 @@ every_request : (p : Record → Bool) (kind target argument : ℕ) (l : List Rec
 unfolding any
 every_request p kind target argument [] e f = absurd (false≢true f)
 every_request p kind target argument (r ∷ l) e f =
-    let both = and_both (p r) (every p l) (sym (every-cons p r l) ∙ e) in
-    by-test (is kind target argument r) refl f both.0 (every_request p kind target argument l both.1)
+    let both = and_both (p r) (every p l) (sym (every_cons p r l) ∙ e) in
+    by_test (is kind target argument r) refl f both.0 (every_request p kind target argument l both.1)
   where
-    by-test : (b : Bool) → is kind target argument r ≡ b → b || any (is kind target argument) l ≡ true → p r ≡ true
+    by_test : (b : Bool) → is kind target argument r ≡ b → b || any (is kind target argument) l ≡ true → p r ≡ true
         → (any (is kind target argument) l ≡ true → p (handed kind target argument) ≡ true) → p (handed kind target argument) ≡ true
-    by-test true q f own others =
+    by_test true q f own others =
         let x = and_both (eqb kind r.kind) _ q in
         let y = and_both (eqb argument r.argument) _ x.1 in
         rw (eqb-true kind r.kind x.0, eqb-true argument r.argument y.0, eqb-true target r.target y.1) own
-    by-test false q f own others = others f
+    by_test false q f own others = others f
 
 -- ---- where all is granted, the step is done
 -- all ok, none has refused
@@ -336,7 +336,7 @@ none_refused : (hs : List Heard) → every is_okay hs ≡ true → any is_refusa
 unfolding any
 none_refused [] e = refl
 none_refused (x ∷ hs) e =
-    let both = and_both (is_okay x) (every is_okay hs) (sym (every-cons is_okay x hs) ∙ e) in
+    let both = and_both (is_okay x) (every is_okay hs) (sym (every_cons is_okay x hs) ∙ e) in
     rw (none_refused hs both.1) (by_answer x.answer both.0)
   where
     by_answer : (answer : LastAnswer) → is_okay (heard answer) ≡ true → is_refusal (heard answer) || false ≡ false
@@ -347,18 +347,18 @@ none_refused (x ∷ hs) e =
 -- who asks the transceiver for something has one
 has_transceiver_lem : (n : Network) (ask : Ask) → is_errand ask ≡ true → suits_ask (own_outfit n) ask ≡ true → (Q : Type 0)
     → ((t : ℕ) → n.transceiver ≡ Transceiver.Present t → Q) → Q
-has_transceiver_lem n ask f u Q p = by-fit n.transceiver n.partial refl u
+has_transceiver_lem n ask f u Q p = by_fit_lem n.transceiver n.partial refl u
   where
-    no-ask : (a : Ask) → is_errand a ≡ true → suits_ask Outfit.Bare a ≡ true → Q
-    no-ask Ask.Nothing f u = absurd (false≢true f)
-    no-ask (Ask.Controllers mode) f u = absurd (false≢true f)
-    no-ask (Ask.Transceiver mode) f u = absurd (false≢true u)
-    no-ask Ask.ClearWake f u = absurd (false≢true u)
-    no-ask Ask.CheckWake f u = absurd (false≢true u)
+    no_ask : (a : Ask) → is_errand a ≡ true → suits_ask Outfit.Bare a ≡ true → Q
+    no_ask Ask.Nothing f u = absurd (false≢true f)
+    no_ask (Ask.Controllers mode) f u = absurd (false≢true f)
+    no_ask (Ask.Transceiver mode) f u = absurd (false≢true u)
+    no_ask Ask.ClearWake f u = absurd (false≢true u)
+    no_ask Ask.CheckWake f u = absurd (false≢true u)
 
-    by-fit : (t : Transceiver) (partial : Bool) → n.transceiver ≡ t → suits_ask (outfit_of t partial) ask ≡ true → Q
-    by-fit Transceiver.Absent partial e u = no-ask ask f u
-    by-fit (Transceiver.Present t) partial e u = p t e
+    by_fit_lem : (t : Transceiver) (partial : Bool) → n.transceiver ≡ t → suits_ask (outfit_of t partial) ask ≡ true → Q
+    by_fit_lem Transceiver.Absent partial e u = no_ask ask f u
+    by_fit_lem (Transceiver.Present t) partial e u = p t e
 
 module _ (n : Network) (g : InRange n) (f : Distinct (controllers_of n)) (h q : OwnHistory) (r : Ran n (q ++ h)) (calm : never struck q)
     (l : 0 < tally ticked q) (all : all_granted q ≡ true) where
@@ -379,8 +379,8 @@ module _ (n : Network) (g : InRange n) (f : Distinct (controllers_of n)) (h q : 
   was_granted : (kind target argument : ℕ) (report : Report) → Requested n kind target argument report
       → is_request (handed kind target argument) ≡ true → awaits (asks_for s.step) report ≡ true → granted (handed kind target argument) q ≡ true
   was_granted kind target argument report asks is_one a =
-      let out = sym (handed-last n g h kind target argument q calm l)
-      ∙ awaited-takes n kind target argument report asks g (q ++ h) r ∙ takes n g s kept q i report a in
+      let out = sym (handed_last n g h kind target argument q calm l)
+      ∙ awaited_takes n kind target argument report asks g (q ++ h) r ∙ takes n g s kept q i report a in
       let passed = every_request (λ (x : Record). not (is_request x) || granted x q) kind target argument (last_handed q) all out in
       rw (is_one) at passed
 
@@ -389,42 +389,42 @@ module _ (n : Network) (g : InRange n) (f : Distinct (controllers_of n)) (h q : 
   unfolding any
   all_said mode a =
       all_okay n s g f kept ∙ each_member (said_okay n s.answers) (controllers_of n) (λ c own. i.okay mode a c own
-      (was_granted 1 c (controller_number mode) (Report.Controller (controller_number mode)) (controller-requested n c (controller_number mode) own) refl
-      (awaits-own n g s kept q i mode a)))
+      (was_granted 1 c (controller_number mode) (Report.Controller (controller_number mode)) (controller_requested n c (controller_number mode) own) refl
+      (awaits_own n g s kept q i mode a)))
 
   -- what the transceiver is asked for was reported
-  was-reported : (ask : Ask) → asks_for s.step ≡ ask → is_errand ask ≡ true → s.reported ≡ true
+  was_reported : (ask : Ask) → asks_for s.step ≡ ask → is_errand ask ≡ true → s.reported ≡ true
   unfolding any
-  was-reported Ask.Nothing a e = absurd (false≢true e)
-  was-reported (Ask.Controllers mode) a e = absurd (false≢true e)
-  was-reported (Ask.Transceiver mode) a e =
+  was_reported Ask.Nothing a e = absurd (false≢true e)
+  was_reported (Ask.Controllers mode) a e = absurd (false≢true e)
+  was_reported (Ask.Transceiver mode) a e =
       let number = transceiver_number mode in
       let awaits-it = ap (λ (ask : Ask). awaits ask (Report.Transceiver number)) a ∙ eqb_same number in
       has_transceiver_lem n (Ask.Transceiver mode) e (suited a) (s.reported ≡ true) (λ t present.
       i.reported 2 number (Report.Transceiver number) t (transceiver_granted number) awaits-it
-      (was_granted 2 t number (Report.Transceiver number) (transceiver-requested n t number present) refl awaits-it))
-  was-reported Ask.ClearWake a e =
+      (was_granted 2 t number (Report.Transceiver number) (transceiver_requested n t number present) refl awaits-it))
+  was_reported Ask.ClearWake a e =
       let awaits-it = ap (λ (ask : Ask). awaits ask Report.Cleared) a in
       has_transceiver_lem n Ask.ClearWake e (suited a) (s.reported ≡ true) (λ t present.
       i.reported 4 0 Report.Cleared t clear_granted awaits-it
-      (was_granted 4 t 0 Report.Cleared (clear-requested n t present) refl awaits-it))
-  was-reported Ask.CheckWake a e =
+      (was_granted 4 t 0 Report.Cleared (clear_requested n t present) refl awaits-it))
+  was_reported Ask.CheckWake a e =
       let awaits-it = ap (λ (ask : Ask). awaits ask Report.Checked) a in
       has_transceiver_lem n Ask.CheckWake e (suited a) (s.reported ≡ true) (λ t present.
       i.reported 5 0 Report.Checked t check_granted awaits-it
-      (was_granted 5 t 0 Report.Checked (check-requested n t present) refl awaits-it))
+      (was_granted 5 t 0 Report.Checked (check_requested n t present) refl awaits-it))
 
   -- so a step that asks is done
-  pub granted-done : is_asking s.step ≡ true → finished n s ≡ true
-  granted-done a = by-ask (asks_for s.step) refl (i.asked a)
+  pub granted_done : is_asking s.step ≡ true → finished n s ≡ true
+  granted_done a = by_ask (asks_for s.step) refl (i.asked a)
     where
-      by-ask : (ask : Ask) → asks_for s.step ≡ ask → s.asked ≡ true → finished n s ≡ true
-      by-ask Ask.Nothing e asked = absurd (false≢true (sym (ap is_ask e) ∙ a))
-      by-ask (Ask.Controllers mode) e asked = finished-just n s mode e ∙ rw (asked) (all_said mode e)
-      by-ask (Ask.Transceiver mode) e asked = finished-reported n s (ap is_errand e) ∙ rw (asked) (was-reported _ e refl)
-      by-ask Ask.ClearWake e asked = finished-reported n s (ap is_errand e) ∙ rw (asked) (was-reported _ e refl)
-      by-ask Ask.CheckWake e asked = finished-reported n s (ap is_errand e) ∙ rw (asked) (was-reported _ e refl)
+      by_ask : (ask : Ask) → asks_for s.step ≡ ask → s.asked ≡ true → finished n s ≡ true
+      by_ask Ask.Nothing e asked = absurd (false≢true (sym (ap is_ask e) ∙ a))
+      by_ask (Ask.Controllers mode) e asked = finished_just n s mode e ∙ rw (asked) (all_said mode e)
+      by_ask (Ask.Transceiver mode) e asked = finished_reported n s (ap is_errand e) ∙ rw (asked) (was_reported _ e refl)
+      by_ask Ask.ClearWake e asked = finished_reported n s (ap is_errand e) ∙ rw (asked) (was_reported _ e refl)
+      by_ask Ask.CheckWake e asked = finished_reported n s (ap is_errand e) ∙ rw (asked) (was_reported _ e refl)
 
   -- and sleep was not refused
-  pub granted-sleep : s.step ≡ ControllersSleep → any is_refusal (heard_of n s) ≡ false
-  granted-sleep e = none_refused (heard_of n s) (all_said ControllerMode.Sleep (ap asks_for e))
+  pub granted_sleep : s.step ≡ ControllersSleep → any is_refusal (heard_of n s) ≡ false
+  granted_sleep e = none_refused (heard_of n s) (all_said ControllerMode.Sleep (ap asks_for e))

@@ -12,7 +12,7 @@ use Rattle.steps.specs.declared.Step.TheVariants.{ControllersSleep}
 use Rattle.steps.specs.declared.Move.{Move}
 use Rattle.steps.specs.declared.Move.TheVariants.{Stay, AskAgain, Count, EnterFull, EnterSilent, Pass, Wait, GoDown, EnterNoCommunication, Enter}
 use Rattle.steps.specs.Steps.{is_asking}
-use Rattle.steps.specs.After.{step_after}
+use Rattle.steps.specs.After.{step_after_lem}
 use Rattle.network.specs.declared.State.{State}
 use Rattle.network.specs.State.{heard_of}
 use Rattle.network.specs.Rules.{is_refusal, delay_of}
@@ -26,7 +26,7 @@ use Rattle.network_demands.proofs.Second.{never_rest}
 use Rattle.network_demands.proofs.Arrows.{suits, own_outfit, has_rested}
 use Rattle.network_demands.proofs.Standing.{stands}
 use Rattle.network_demands.proofs.Told.{delay_range}
-use Rattle.network_demands.proofs.Granted.{granted-done, granted-sleep}
+use Rattle.network_demands.proofs.Granted.{granted_done, granted_sleep}
 use Rattle.network_demands.proofs.Toward.{ticks_left, onward, goes_onward, less, nearer}
 
 -- ---- the ticks that are left, by the record
@@ -41,30 +41,30 @@ pub record Onward (n : Network) (s : State) : Type 0 where
 
 module _ (n : Network) (g : InRange n) (s : State) (u : suits (own_outfit n) s.step ≡ true) (o : Onward n s) where
   -- it does
-  pub moves-on : decides n s ≡ onward (own_outfit n) (reaches n s) s.step
-  moves-on =
+  pub moves_on : decides n s ≡ onward (own_outfit n) (reaches n s) s.step
+  moves_on =
       goes_onward s.step s.wanted (finished n s) (any is_refusal (heard_of n s)) (reaches n s) (own_outfit n) u o.done o.sleep o.called
 
   -- the count matters only where a delay is left
-  count-aside : (m : Move) → ticks_left (own_outfit n) (delay_of n (count_after m s.count)) (step_after m s.step n.partial)
-      ≡ ticks_left (own_outfit n) (delay_of n s.count) (step_after m s.step n.partial)
-  count-aside Stay = refl
-  count-aside AskAgain = refl
-  count-aside (Count next) = refl
-  count-aside EnterFull = refl
-  count-aside EnterSilent = refl
-  count-aside Pass = refl
-  count-aside Wait = refl
-  count-aside GoDown = refl
-  count-aside EnterNoCommunication = refl
-  count-aside (Enter next) = refl
+  count_aside : (m : Move) → ticks_left (own_outfit n) (delay_of n (count_after m s.count)) (step_after_lem m s.step n.partial)
+      ≡ ticks_left (own_outfit n) (delay_of n s.count) (step_after_lem m s.step n.partial)
+  count_aside Stay = refl
+  count_aside AskAgain = refl
+  count_aside (Count next) = refl
+  count_aside EnterFull = refl
+  count_aside EnterSilent = refl
+  count_aside Pass = refl
+  count_aside Wait = refl
+  count_aside GoDown = refl
+  count_aside EnterNoCommunication = refl
+  count_aside (Enter next) = refl
 
   -- one tick nearer
-  pub tick-nearer : left n (tick_after n s) ≡ less (left n s)
+  pub tick_nearer : left n (tick_after n s) ≡ less (left n s)
   unfolding after_move
-  tick-nearer =
+  tick_nearer =
       let range = delay_range n g s.count in
-      count-aside (decides n s) ∙ ap (λ (m : Move). ticks_left (own_outfit n) (delay_of n s.count) (step_after m s.step n.partial)) moves-on
+      count_aside (decides n s) ∙ ap (λ (m : Move). ticks_left (own_outfit n) (delay_of n s.count) (step_after_lem m s.step n.partial)) moves_on
       ∙ nearer s.step (own_outfit n) n.ensure (delay_of n s.count) n.partial u range.0 range.1
 
 -- the mode with number 2 is full
@@ -107,10 +107,10 @@ module _ (n : Network) (g : InRange n) (h : OwnHistory) where
   at q = state_of n (q ++ h)
 
   -- a tick that goes on brings the network nearer, and nothing else does
-  pub left-more : (e : Seen) (q : OwnHistory) → Ran n (e ∷ (q ++ h)) → struck e ≡ false → (ticked e ≡ true → Onward n (at q))
+  pub left_more : (e : Seen) (q : OwnHistory) → Ran n (e ∷ (q ++ h)) → struck e ≡ false → (ticked e ≡ true → Onward n (at q))
       → left n (at (e ∷ q)) ≡ cond (ticked e) (less (left n (at q))) (left n (at q))
   unfolding Ran state_of
-  left-more e q r calm o =
+  left_more e q r calm o =
       by_part n (at q) (λ e t. struck e ≡ false → (ticked e ≡ true → Onward n (at q)) → left n t
       ≡ cond (ticked e) (less (left n (at q))) (left n (at q))) (record {
         plain = λ sight number mode reported p _ _. rw p.tick refl;
@@ -119,7 +119,7 @@ module _ (n : Network) (g : InRange n) (h : OwnHistory) where
         restarts = λ u a calm _. absurd (true≢false calm);
         not_taken = λ u a _ _. refl;
         resets = λ u calm _. absurd (true≢false calm);
-        ticks = λ _ o. tick-nearer n g (at q) (stands n g (q ++ h) r.1).suited (o refl);
+        ticks = λ _ o. tick_nearer n g (at q) (stands n g (q ++ h) r.1).suited (o refl);
       }) e r.0 calm o
 
   -- once there was a good tick, the next one goes on, if full is wanted or the network goes down
@@ -129,7 +129,7 @@ module _ (n : Network) (g : InRange n) (h : OwnHistory) where
       let calm = never_rest struck e q i.calm in
       let all = granted_then e q i.granted t in
       record {
-        done = granted-done n g f h q r calm l all;
-        sleep = granted-sleep n g f h q r calm l all;
+        done = granted_done n g f h q r calm l all;
+        sleep = granted_sleep n g f h q r calm l all;
         called = λ z. full_number (at q).wanted (wanted_follows n (q ++ h) r ∙ full_then number e q h i.full t (called z));
       }

@@ -12,7 +12,7 @@ use Rattle.steps.specs.declared.Step.{Step}
 use Rattle.steps.specs.declared.Outfit.{Outfit}
 use Rattle.steps.specs.declared.Move.{Move}
 use Rattle.steps.specs.Steps.{phase_of, is_restarting}
-use Rattle.steps.specs.After.{step_after}
+use Rattle.steps.specs.After.{step_after_lem}
 use Rattle.steps.proofs.Laws.{numbered_is}
 use Rattle.network.specs.declared.State.{State}
 use Rattle.network.specs.State.{started}
@@ -32,7 +32,7 @@ use Rattle.network_demands.proofs.Standing.{stands}
 use Rattle.network_demands.proofs.Counted.{exceeds_from}
 use Rattle.network_demands.proofs.Told.{delay_range, told_in_full}
 use Rattle.network_demands.proofs.Toward.{by_each, less, is_none, none_left, recovering_phase, at_most}
-use Rattle.network_demands.proofs.Nearer.{left, left-more, onward_then, fewer_ticks}
+use Rattle.network_demands.proofs.Nearer.{left, left_more, onward_then, fewer_ticks}
 
 -- ---- a recovery has a bus_off_lem that was counted
 abbrev Counts : Network → State → Type 0
@@ -40,17 +40,17 @@ Counts n s = recovering_phase (phase_of s.step) ≡ true → 0 < s.count
 
 abbrev CountsAfter : Bool → ℕ → Step → Mode → Move → Type 0
 CountsAfter partial count step wanted m =
-    (recovering_phase (phase_of step) ≡ true → 0 < count) → recovering_phase (phase_of (step_after m step partial)) ≡ true → 0 < count_after m count
+    (recovering_phase (phase_of step) ≡ true → 0 < count) → recovering_phase (phase_of (step_after_lem m step partial)) ≡ true → 0 < count_after m count
 
 raised_some : (count : ℕ) → 0 < raised count
 raised_some count = split (λ (x : ℕ). 0 < x) (ltb count 255) (λ _. omega arith) (λ e. omega (arith, ltb-false count 255 e))
 
 -- step 6 was counted before
 again_some : (n : Network) (s : State) → Counts n s → 0 < counted_in s.step s.count
-again_some n s i = split (λ (x : ℕ). 0 < x) (is_restarting s.step) (λ e. i (by-step s.step e)) (λ _. raised_some s.count)
+again_some n s i = split (λ (x : ℕ). 0 < x) (is_restarting s.step) (λ e. i (by_step s.step e)) (λ _. raised_some s.count)
   where
-    by-step : (step : Step) → is_restarting step ≡ true → recovering_phase (phase_of step) ≡ true
-    by-step step e = ap (λ (x : Step). recovering_phase (phase_of x)) (numbered_is 6 step e)
+    by_step : (step : Step) → is_restarting step ≡ true → recovering_phase (phase_of step) ≡ true
+    by_step step e = ap (λ (x : Step). recovering_phase (phase_of x)) (numbered_is 6 step e)
 
 counts_more : (n : Network) → InRange n → (e : Seen) (h : OwnHistory) → Ran n (e ∷ h) → Counts n (state_of n h) → Counts n (state_of n (e ∷ h))
 unfolding state_of Ran after_move after_hit made_anew
@@ -108,12 +108,12 @@ delay_most n count some = split (λ (d : ℕ). delay_of n count ≤ d) (exceeds 
 -- ---- how far at most
 -- the figures by the settings are those by the outfit
 pub by_outfit_lem : (n : Network) (bare fitted partial : ℕ) → by_outfit n bare fitted partial ≡ by_each (own_outfit n) bare fitted partial
-by_outfit_lem n bare fitted partial = by-fit n.transceiver n.partial
+by_outfit_lem n bare fitted partial = by_fit_lem n.transceiver n.partial
   where
-    by-fit : (t : Transceiver) (b : Bool) → by_fit t b bare fitted partial ≡ by_each (outfit_of t b) bare fitted partial
-    by-fit Transceiver.Absent b = refl
-    by-fit (Transceiver.Present id) true = refl
-    by-fit (Transceiver.Present id) false = refl
+    by_fit_lem : (t : Transceiver) (b : Bool) → by_fit t b bare fitted partial ≡ by_each (outfit_of t b) bare fitted partial
+    by_fit_lem Transceiver.Absent b = refl
+    by_fit_lem (Transceiver.Present id) true = refl
+    by_fit_lem (Transceiver.Present id) false = refl
 
 -- one tick of the most is needed to ask
 asked_first : (outfit : Outfit) (most : ℕ) → by_each outfit 6 8 11 ≤ most → by_each outfit 5 7 10 ≤ most - 1
@@ -137,32 +137,32 @@ module _ (n : Network) (g : InRange n) (f : Distinct (controllers_of n)) (h : Ow
   abbrev at : OwnHistory → State
   at q = state_of n (q ++ h)
 
-  nearer-more : (e : Seen) (q : OwnHistory) → Ran n (e ∷ (q ++ h)) → GoodTicks 1 (e ∷ q) h
+  nearer_more : (e : Seen) (q : OwnHistory) → Ran n (e ∷ (q ++ h)) → GoodTicks 1 (e ∷ q) h
       → (0 < tally ticked q → left n (at q) ≤ most_ticks n - tally ticked q) → (b : Bool) → ticked e ≡ b
       → 0 < cond b (suc (tally ticked q)) (tally ticked q) → left n (at (e ∷ q)) ≤ most_ticks n - cond b (suc (tally ticked q)) (tally ticked q)
   unfolding Ran
-  nearer-more e q r i earlier false t l =
+  nearer_more e q r i earlier false t l =
       subst (λ (k : ℕ). k ≤ most_ticks n - tally ticked q)
-      (sym (left-more n g h e q r (never_first struck e q i.calm) (λ z. absurd (false≢true (sym t ∙ z))) ∙ rw (t) refl)) (earlier l)
-  nearer-more e q r i earlier true t l = by-ticks (tally ticked q) refl
+      (sym (left_more n g h e q r (never_first struck e q i.calm) (λ z. absurd (false≢true (sym t ∙ z))) ∙ rw (t) refl)) (earlier l)
+  nearer_more e q r i earlier true t l = by_ticks (tally ticked q) refl
     where
-      by-ticks : (k : ℕ) → tally ticked q ≡ k → left n (at (e ∷ q)) ≤ most_ticks n - suc (tally ticked q)
-      by-ticks zero z = rw (z) (far_at_most n g (e ∷ (q ++ h)) r)
-      by-ticks (suc k) z =
+      by_ticks : (k : ℕ) → tally ticked q ≡ k → left n (at (e ∷ q)) ≤ most_ticks n - suc (tally ticked q)
+      by_ticks zero z = rw (z) (far_at_most n g (e ∷ (q ++ h)) r)
+      by_ticks (suc k) z =
           let some : 0 < tally ticked q = omega (arith, z) in
           let on = onward_then n g h f 1 e q r.1 i t some (λ _. omega arith) in
           subst (λ (k : ℕ). k ≤ most_ticks n - suc (tally ticked q))
-          (sym (left-more n g h e q r (never_first struck e q i.calm) (λ _. on) ∙ rw (t) refl))
+          (sym (left_more n g h e q r (never_first struck e q i.calm) (λ _. on) ∙ rw (t) refl))
           (less_sub (left n (at q)) (most_ticks n) (tally ticked q) (earlier some))
 
-  left-within : (q : OwnHistory) → Ran n (q ++ h) → GoodTicks 1 q h → 0 < tally ticked q → left n (at q) ≤ most_ticks n - tally ticked q
+  left_within : (q : OwnHistory) → Ran n (q ++ h) → GoodTicks 1 q h → 0 < tally ticked q → left n (at q) ≤ most_ticks n - tally ticked q
   unfolding Ran tally
-  left-within [] r i l = absurd (omega (arith, l))
-  left-within (e ∷ q) r i l = nearer-more e q r i (left-within q r.1 (fewer_ticks 1 e q h i)) (ticked e) refl l
+  left_within [] r i l = absurd (omega (arith, l))
+  left_within (e ∷ q) r i l = nearer_more e q r i (left_within q r.1 (fewer_ticks 1 e q h i)) (ticked e) refl l
 
   pub never_stuck : (q : OwnHistory) → Ran n (q ++ h) → NeverStuck n q h
   never_stuck q r i l =
-      let within = left-within q r i (omega (arith, l)) in
+      let within = left_within q r i (omega (arith, l)) in
       let none : left n (at q) ≡ 0 = omega (arith, within, l) in
       sym (eqb-true 2 (told n (q ++ h)) (told_in_full n g (q ++ h) r
       ∙ none_left (at q).step (own_outfit n) (delay_of n (at q).count) ∙ ap is_none none))

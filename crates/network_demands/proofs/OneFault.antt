@@ -10,22 +10,22 @@ use Rattle.network_demands.proofs.Says.{ran_earlier}
 
 module _ (n : Network) (g : InRange n) where
   -- a network that is restarting stays so until TX offline or a shutdown
-  restarting-on : (s h : OwnHistory) → restarting n h ≡ true → never quieted s → never (shut n) s → restarting n (s ++ h) ≡ true
+  restarting_on : (s h : OwnHistory) → restarting n h ≡ true → never quieted s → never (shut n) s → restarting n (s ++ h) ≡ true
   unfolding restarting
-  restarting-on [] h z q d = z
-  restarting-on (e ∷ s) h z q d =
-      rw (never_first quieted e s q, never_first (shut n) e s d, restarting-on s h z (never_rest quieted e s q) (never_rest (shut n) e s d))
+  restarting_on [] h z q d = z
+  restarting_on (e ∷ s) h z q d =
+      rw (never_first quieted e s q, never_first (shut n) e s d, restarting_on s h z (never_rest quieted e s q) (never_rest (shut n) e s d))
       (or-true (fell_up n e (s ++ h)))
 
   -- and until then those that count are those from before
-  falls-on : (s h : OwnHistory) → Ran n (s ++ h) → restarting n h ≡ true → never quieted s → never (shut n) s → falls n (s ++ h) ≡ falls n h
+  falls_on : (s h : OwnHistory) → Ran n (s ++ h) → restarting n h ≡ true → never quieted s → never (shut n) s → falls n (s ++ h) ≡ falls n h
   unfolding Ran
-  falls-on [] h r z q d = refl
-  falls-on (e ∷ s) h r z q d =
-      let still = restarting-on s h z (never_rest quieted e s q) (never_rest (shut n) e s d) in
+  falls_on [] h r z q d = refl
+  falls_on (e ∷ s) h r z q d =
+      let still = restarting_on s h z (never_rest quieted e s q) (never_rest (shut n) e s d) in
       falls_by n e (s ++ h) false false (restarting_uncleared n g e (s ++ h) r still)
       (ap (λ (b : Bool). fell_up n e (s ++ h) && not b) still ∙ and-false (fell_up n e (s ++ h)))
-      ∙ falls-on s h r.1 z (never_rest quieted e s q) (never_rest (shut n) e s d)
+      ∙ falls_on s h r.1 z (never_rest quieted e s q) (never_rest (shut n) e s d)
 
-  pub counted-once : (s : OwnHistory) (b : Seen) (h : OwnHistory) → Ran n (s ++ (b ∷ h)) → CountedOnce n s b h
-  counted-once s b h r u q d = falls-on s (b ∷ h) r (restarting_begins n g b h (ran_earlier n s (b ∷ h) r) u) q d
+  pub counted_once : (s : OwnHistory) (b : Seen) (h : OwnHistory) → Ran n (s ++ (b ∷ h)) → CountedOnce n s b h
+  counted_once s b h r u q d = falls_on s (b ∷ h) r (restarting_begins n g b h (ran_earlier n s (b ∷ h) r) u) q d

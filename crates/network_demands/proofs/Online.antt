@@ -17,7 +17,7 @@ use Rattle.steps.specs.declared.Outfit.{Outfit}
 use Rattle.steps.specs.declared.Move.{Move}
 use Rattle.steps.specs.declared.Move.TheVariants.{Stay, AskAgain, Count, EnterFull, EnterSilent, Pass, Wait, GoDown, EnterNoCommunication, Enter}
 use Rattle.steps.specs.Steps.{phase_of, full_phase, online_phase, is_online_step}
-use Rattle.steps.specs.After.{first_down, step_after}
+use Rattle.steps.specs.After.{first_down, step_after_lem}
 use Rattle.handing.specs.declared.Round.{Round}
 use Rattle.handing.specs.Handing.{round_record, online, entering, entering_full, move_records, recovery, reset}
 use Rattle.network.specs.declared.State.{State}
@@ -31,8 +31,8 @@ use Rattle.network_demands.specs.Own.{finished, reaches, decides, tick_hands, pl
 use Rattle.network_demands.specs.Promises.{hands_kind}
 use Rattle.network_demands.specs.Listening.{released, held, sending, pdu_by}
 use Rattle.network_demands.proofs.Views.{seen, by_part}
-use Rattle.network_demands.proofs.Handed.{eqb_same, eqb_swap, is_enter_full, is_enter_silent, is_go_down, pdu-given, move-shuts, move-says-full, move-notes-silent}
-use Rattle.network_demands.proofs.Handed.{move-notes-no-bus-off}
+use Rattle.network_demands.proofs.Handed.{eqb_same, eqb_swap, is_enter_full, is_enter_silent, is_go_down, pdu_given, move_shuts, move_says_full, move_notes_silent}
+use Rattle.network_demands.proofs.Handed.{move_notes_no_bus_off}
 use Rattle.network_demands.proofs.Follows.{state_kept}
 use Rattle.network_demands.proofs.Arrows.{suits, own_outfit, ByArrow, by_tick_arrow}
 use Rattle.network_demands.proofs.Standing.{stands}
@@ -81,7 +81,7 @@ abbrev lets_go : Move → Bool
 lets_go m = is_enter_full m || (is_enter_silent m || (false || is_go_down m))
 
 abbrev Holds : Bool → Step → Mode → Move → Type 0
-Holds partial step wanted m = cond (lets_go m) false (is_resetting step) ≡ is_resetting (step_after m step partial)
+Holds partial step wanted m = cond (lets_go m) false (is_resetting step) ≡ is_resetting (step_after_lem m step partial)
 
 holds : (partial done reached : Bool) (outfit : Outfit) → ByArrow done reached outfit (Holds partial)
 holds partial done reached outfit = record {
@@ -114,29 +114,29 @@ held_by n e h false p = rw p refl
 
 module _ (n : Network) (h : OwnHistory) (s : State) (fit : suits (own_outfit n) s.step ≡ true) (kept : Kept n s)
     (k : held n h ≡ is_resetting s.step) where
-  lets-go : released n (seen a_tick 0 (tick_hands n s)) ≡ lets_go (decides n s)
-  lets-go =
+  lets_go_lem : released n (seen a_tick 0 (tick_hands n s)) ≡ lets_go (decides n s)
+  lets_go_lem =
       let m = decides n s in
       rw (
-        move-says-full n s.step s.told m,
-        move-notes-silent n s.step s.told m,
-        move-notes-no-bus-off n s.step s.told m,
-        move-shuts n s.step s.told m,
+        move_says_full n s.step s.told m,
+        move_notes_silent n s.step s.told m,
+        move_notes_no_bus_off n s.step s.told m,
+        move_shuts n s.step s.told m,
       ) refl
 
   abbrev StillHeld : Seen → State → Type 0
   StillHeld e t = held n (e ∷ h) ≡ is_resetting t.step
 
-  held-call : (e : Seen) → Fits n s e → StillHeld e (played n s e.sight).state
+  held_call : (e : Seen) → Fits n s e → StillHeld e (played n s e.sight).state
   unfolding since any recovery reset after_hit made_anew after_move
-  held-call = by_part n s StillHeld (record {
+  held_call = by_part n s StillHeld (record {
     plain = λ sight number mode reported p. rw p.stall k;
     hears = λ c mode ok m l e. k;
     recovers = λ u. rw (eqb_same n.handle) refl;
     restarts = λ u a. k;
     not_taken = λ u a. k;
     resets = λ f. refl;
-    ticks = held_by n (seen a_tick 0 (tick_hands n s)) h (lets_go (decides n s)) lets-go
+    ticks = held_by n (seen a_tick 0 (tick_hands n s)) h (lets_go (decides n s)) lets_go_lem
         ∙ ap (cond (lets_go (decides n s)) false) k
         ∙ by_tick_arrow n s (Holds n.partial) (holds n.partial (finished n s) (reaches n s) (own_outfit n)) fit kept;
   })
@@ -145,7 +145,7 @@ pub held_means : (n : Network) → InRange n → (h : OwnHistory) → Ran n h �
 unfolding state_of Ran started since any
 held_means n g [] r = first_down_quiet n.partial
 held_means n g (e ∷ h) r =
-    held-call n h (state_of n h) (stands n g h r.1).suited (state_kept n g h r.1) (held_means n g h r.1) e r.0
+    held_call n h (state_of n h) (stands n g h r.1).suited (state_kept n g h r.1) (held_means n g h r.1) e r.0
 
 -- L6: full is told or the network is held exactly in steps 4, 5, 15 and 16
 pub sending_means : (n : Network) → InRange n → (h : OwnHistory) → Ran n h → sending n h ≡ is_online_step (state_of n h).step
@@ -156,13 +156,13 @@ sending_means n g h r = rw (told_in_full n g h r, held_means n g h r) (two_group
 pub pdu_same : (c : ℕ) (rs : List Record) (before : ℕ) → any (λ (r : Record). eqb 3 r.kind) rs ≡ false → pdu_by c rs before ≡ before
 unfolding pdu_by any
 pdu_same c [] before e = refl
-pdu_same c (r ∷ rs) before e = by-test (eqb 3 r.kind) e (pdu_same c rs before)
+pdu_same c (r ∷ rs) before e = by_test (eqb 3 r.kind) e (pdu_same c rs before)
   where
-    by-test : (b : Bool) → b || any (λ (x : Record). eqb 3 x.kind) rs ≡ false
+    by_test : (b : Bool) → b || any (λ (x : Record). eqb 3 x.kind) rs ≡ false
         → (any (λ (x : Record). eqb 3 x.kind) rs ≡ false → pdu_by c rs before ≡ before)
         → pdu_by c rs (cond (b && eqb c r.target) r.argument before) ≡ before
-    by-test true f later = absurd (true≢false f)
-    by-test false f later = later f
+    by_test true f later = absurd (true≢false f)
+    by_test false f later = later f
 
 pdu_append : (c : ℕ) (l m : List Record) (before : ℕ) → pdu_by c (l ++ m) before ≡ pdu_by c m (pdu_by c l before)
 unfolding pdu_by
@@ -174,10 +174,10 @@ pub pdu_each : (c argument : ℕ) (ids : List ℕ) (before : ℕ)
     → pdu_by c (map (λ (x : ℕ). handed 3 x argument) ids) before ≡ cond (member c ids) argument before
 unfolding pdu_by any
 pdu_each c argument [] before = refl
-pdu_each c argument (x ∷ ids) before = pdu_each c argument ids (cond (eqb c x) argument before) ∙ by-test (eqb c x) (member c ids) (eqb_swap c x)
+pdu_each c argument (x ∷ ids) before = pdu_each c argument ids (cond (eqb c x) argument before) ∙ by_test (eqb c x) (member c ids) (eqb_swap c x)
   where
-    by-test : (first later : Bool) → eqb c x ≡ eqb x c → cond later argument (cond (eqb c x) argument before) ≡ cond (eqb x c || later) argument before
-    by-test first later q = by_both (eqb x c) later q
+    by_test : (first later : Bool) → eqb c x ≡ eqb x c → cond later argument (cond (eqb c x) argument before) ≡ cond (eqb x c || later) argument before
+    by_test first later q = by_both (eqb x c) later q
       where
         by_both : (b later : Bool) → eqb c x ≡ b → cond later argument (cond (eqb c x) argument before) ≡ cond (b || later) argument before
         by_both true true e = refl
@@ -200,7 +200,7 @@ entering_online n c own before =
 -- the move of a tick that leaves a network in such a step
 module _ (n : Network) (told : Mode) where
   abbrev Leaves : Step → Mode → Move → Type 0
-  Leaves step wanted m = is_online_step (step_after m step n.partial) ≡ true
+  Leaves step wanted m = is_online_step (step_after_lem m step n.partial) ≡ true
       → (is_enter_full m ≡ true) ⊎ ((is_online_step step ≡ true) × (any (λ (r : Record). eqb 3 r.kind) (move_records n step told m) ≡ false))
 
   leaves : (done reached : Bool) (outfit : Outfit) → ByArrow done reached outfit Leaves
@@ -211,14 +211,14 @@ module _ (n : Network) (told : Mode) where
     climbs = λ d z. absurd (false≢true z);
     begins = λ d z. absurd (false≢true z);
     starts = λ d z. inl refl;
-    asks_again = λ step wanted a _ z. inr (z, pdu-given n step told AskAgain);
-    checks = λ t r z. inr (refl, pdu-given n _ told _);
-    passes = λ t r z. inr (refl, pdu-given n _ told Pass);
-    stays_full = λ z. inr (refl, pdu-given n _ told Stay);
+    asks_again = λ step wanted a _ z. inr (z, pdu_given n step told AskAgain);
+    checks = λ t r z. inr (refl, pdu_given n _ told _);
+    passes = λ t r z. inr (refl, pdu_given n _ told Pass);
+    stays_full = λ z. inr (refl, pdu_given n _ told Stay);
     stays_silent = λ z. absurd (false≢true z);
     waits = λ wanted w d z. absurd (false≢true z);
     waits_on = λ t wanted w r z. absurd (false≢true z);
-    resumes = λ wanted w d z. inr (refl, pdu-given n _ told _);
+    resumes = λ wanted w d z. inr (refl, pdu_given n _ told _);
     fills = λ step q f z. inl refl;
     silences = λ step q z. absurd (false≢true z);
     goes_down_lem = λ step q z. absurd (false≢true (sym (first_down_offline n.partial) ∙ z));
@@ -242,9 +242,9 @@ module _ (n : Network) (s : State) (fit : suits (own_outfit n) s.step ≡ true) 
   by_move (Enter next) (inl z) = absurd (false≢true z)
   by_move m (inr z) = finds_online z.0 z.1
 
-  pub stays-online : (e : Seen) → Fits n s e → is_online_step (played n s e.sight).state.step ≡ true → StaysOnline n s e
+  pub stays_online : (e : Seen) → Fits n s e → is_online_step (played n s e.sight).state.step ≡ true → StaysOnline n s e
   unfolding any recovery reset after_hit made_anew after_move
-  stays-online = by_part n s (λ e t. is_online_step t.step ≡ true → StaysOnline n s e) (record {
+  stays_online = by_part n s (λ e t. is_online_step t.step ≡ true → StaysOnline n s e) (record {
     plain = λ sight number mode reported p z. finds_online z refl;
     hears = λ c mode ok m l e z. finds_online z refl;
     recovers = λ u z. absurd (false≢true z);

@@ -25,17 +25,17 @@ use Rattle.network_demands.proofs.Views.{by_part}
 use Rattle.network_demands.proofs.Up.{up_means}
 use Rattle.network_demands.proofs.Arrows.{rested_phase}
 use Rattle.network_demands.proofs.Told.{told_in_full}
-use Rattle.network_demands.proofs.Given.{controller-requested, transceiver-requested, clear-requested, check-requested}
-use Rattle.network_demands.proofs.Standing.{stands, awaited-takes}
+use Rattle.network_demands.proofs.Given.{controller_requested, transceiver_requested, clear_requested, check_requested}
+use Rattle.network_demands.proofs.Standing.{stands, awaited_takes}
 
 -- ---- what is taken, by the network's record
 -- up to a limit is not above it
 within : (a limit : ℕ) → leb a limit ≡ not (ltb limit a)
-within a limit = by-test (ltb limit a) refl
+within a limit = by_test (ltb limit a) refl
   where
-    by-test : (b : Bool) → ltb limit a ≡ b → leb a limit ≡ not b
-    by-test true e = lt-leb a limit (ltb-true limit a e)
-    by-test false e = le-leb a limit (ltb-false limit a e)
+    by_test : (b : Bool) → ltb limit a ≡ b → leb a limit ≡ not b
+    by_test true e = lt-leb a limit (ltb-true limit a e)
+    by_test false e = le-leb a limit (ltb-false limit a e)
 
 -- a request: which of its five answers a number is
 record Which : Type 0 where
@@ -85,11 +85,11 @@ request_due phase false false e = refl
 
 -- silent is not above 2
 silent_within : (mode : ℕ) → ltb 2 mode && eqb 1 mode ≡ false
-silent_within mode = by-test (eqb 1 mode) refl
+silent_within mode = by_test (eqb 1 mode) refl
   where
-    by-test : (b : Bool) → eqb 1 mode ≡ b → ltb 2 mode && b ≡ false
-    by-test true e = rw (le-ltb 2 mode (omega (arith, eqb-true 1 mode e))) refl
-    by-test false e = and-false (ltb 2 mode)
+    by_test : (b : Bool) → eqb 1 mode ≡ b → ltb 2 mode && b ≡ false
+    by_test true e = rw (le-ltb 2 mode (omega (arith, eqb-true 1 mode e))) refl
+    by_test false e = and-false (ltb 2 mode)
 
 -- a report, and an answer
 report_taken : (s : State) (report : Report) (after : State) →
@@ -182,14 +182,14 @@ module _ (n : Network) (g : InRange n) (e : Seen) (h : OwnHistory) (r : Ran n (e
   answers = record {
     controllers = λ c mode ok f own.
         replied (an_answer c mode ok) f refl ∙ answer_taken n s c mode ok
-        ∙ rw (awaited-takes n 1 c mode (Report.Controller mode) (controller-requested n c mode own) g h before) refl;
+        ∙ rw (awaited_takes n 1 c mode (Report.Controller mode) (controller_requested n c mode own) g h before) refl;
     transceivers = λ t mode f present.
         replied (a_report (Report.Transceiver mode)) f refl ∙ report_taken s (Report.Transceiver mode) _
-        ∙ rw (within mode 2, awaited-takes n 2 t mode (Report.Transceiver mode) (transceiver-requested n t mode present) g h before) refl;
+        ∙ rw (within mode 2, awaited_takes n 2 t mode (Report.Transceiver mode) (transceiver_requested n t mode present) g h before) refl;
     clears = λ t f present.
         replied (a_report Report.Cleared) f refl ∙ report_taken s Report.Cleared _
-        ∙ sym (awaited-takes n 4 t 0 Report.Cleared (clear-requested n t present) g h before);
+        ∙ sym (awaited_takes n 4 t 0 Report.Cleared (clear_requested n t present) g h before);
     checks = λ t f present.
         replied (a_report Report.Checked) f refl ∙ report_taken s Report.Checked _
-        ∙ sym (awaited-takes n 5 t 0 Report.Checked (check-requested n t present) g h before);
+        ∙ sym (awaited_takes n 5 t 0 Report.Checked (check_requested n t present) g h before);
   }

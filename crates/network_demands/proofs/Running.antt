@@ -3,7 +3,7 @@ use Rattle.lists.proofs.Basics.{ℕ, suc, ◌<◌, arith, ltb-false, lt-ltb, ◌
 use Rattle.lists.proofs.Basics.{ltb, length, get_or}
 use Rattle.lists.specs.Lists.{any}
 use Rattle.lists.proofs.Tests.{split}
-use Rattle.lists.proofs.Any.{any-append-right}
+use Rattle.lists.proofs.Any.{any_append_right}
 use Rattle.settings.specs.declared.Network.{Network}
 use Rattle.settings.specs.Settings.{controllers_of, member}
 use Rattle.settings.specs.Good.{InRange}
@@ -35,43 +35,43 @@ pub asked_first : (c : ℕ) (h : OwnHistory) → asked_to_start c h ≡ false �
 unfolding runs
 asked_first c [] a = refl
 asked_first c (e ∷ h) a =
-    let earlier = any-append-right (hands 1 c 1) (e ∷ []) h a in
+    let earlier = any_append_right (hands 1 c 1) (e ∷ []) h a in
     split (λ (b : Bool). b ≡ false) (is_answer c 1 e.sight && accepted e) (λ _. earlier)
     (λ _. split (λ (b : Bool). b ≡ false) (is_answer c 0 e.sight && accepted e) (λ _. refl) (λ _. asked_first c h earlier))
 
 module _ (n : Network) where
   -- the first tick before which all controllers run: it stays the first
-  pub first-stays : (e : Seen) (s : OwnHistory) → 0 < first_running n s → first_running n (e ∷ s) ≡ first_running n s
+  pub first_stays : (e : Seen) (s : OwnHistory) → 0 < first_running n s → first_running n (e ∷ s) ≡ first_running n s
   unfolding first_running
-  first-stays e s l = rw (lt-ltb 0 (first_running n s) l) refl
+  first_stays e s l = rw (lt-ltb 0 (first_running n s) l) refl
 
   -- what is no tick is not the first
-  pub first-no-tick : (e : Seen) (s : OwnHistory) → ticked e ≡ false → first_running n (e ∷ s) ≡ first_running n s
+  pub first_no_tick : (e : Seen) (s : OwnHistory) → ticked e ≡ false → first_running n (e ∷ s) ≡ first_running n s
   unfolding first_running
-  first-no-tick e s t = rw t (by-test (ltb 0 (first_running n s)) refl)
+  first_no_tick e s t = rw t (by_test (ltb 0 (first_running n s)) refl)
     where
-      by-test : (b : Bool) → ltb 0 (first_running n s) ≡ b → cond b (first_running n s) 0 ≡ first_running n s
-      by-test true q = refl
-      by-test false q = omega (arith, ltb-false 0 (first_running n s) q)
+      by_test : (b : Bool) → ltb 0 (first_running n s) ≡ b → cond b (first_running n s) 0 ≡ first_running n s
+      by_test true q = refl
+      by_test false q = omega (arith, ltb-false 0 (first_running n s) q)
 
   -- a tick is the first where none was before it and all run now
-  pub first-tick : (e : Seen) (s : OwnHistory) → ticked e ≡ true → first_running n s ≡ 0
+  pub first_tick : (e : Seen) (s : OwnHistory) → ticked e ≡ true → first_running n s ≡ 0
       → first_running n (e ∷ s) ≡ cond (all_run n s) (suc (tally ticked s)) 0
   unfolding first_running
-  first-tick e s t z = rw (t, z) refl
+  first_tick e s t z = rw (t, z) refl
 
   -- where no controller was asked to start, not all run
-  pub none-run : InRange n → (s : OwnHistory) → ((c : ℕ) → member c (controllers_of n) ≡ true → asked_to_start c s ≡ false) → all_run n s ≡ false
+  pub none_run : InRange n → (s : OwnHistory) → ((c : ℕ) → member c (controllers_of n) ≡ true → asked_to_start c s ≡ false) → all_run n s ≡ false
   unfolding any
-  none-run g s a = by-test (all_run n s) refl
+  none_run g s a = by_test (all_run n s) refl
     where
-      by-list : (l : List ℕ) → 0 < length l → member (get_or l 0 0) l ≡ true
-      by-list [] f = absurd (omega arith)
-      by-list (x ∷ l) f = rw (eqb_same x) refl
+      by_list : (l : List ℕ) → 0 < length l → member (get_or l 0 0) l ≡ true
+      by_list [] f = absurd (omega arith)
+      by_list (x ∷ l) f = rw (eqb_same x) refl
 
-      by-test : (b : Bool) → all_run n s ≡ b → b ≡ false
-      by-test true e =
+      by_test : (b : Bool) → all_run n s ≡ b → b ≡ false
+      by_test true e =
           let c = get_or (controllers_of n) 0 0 in
-          let m = by-list (controllers_of n) (some_controller n g) in
+          let m = by_list (controllers_of n) (some_controller n g) in
           absurd (false≢true (sym (asked_first c s (a c m)) ∙ every_member (λ (c : ℕ). runs c s) c (controllers_of n) e m))
-      by-test false e = refl
+      by_test false e = refl

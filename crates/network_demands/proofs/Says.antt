@@ -20,7 +20,7 @@ use Rattle.network_demands.specs.Words.{hands, Seen, OwnHistory, told}
 use Rattle.network_demands.specs.Words.{wanted}
 use Rattle.network_demands.specs.Own.{finished, decides, state_of, Ran}
 use Rattle.network_demands.proofs.Views.{by_part, by_tick}
-use Rattle.network_demands.proofs.Handed.{is_enter_full, move-says-full}
+use Rattle.network_demands.proofs.Handed.{is_enter_full, move_says_full}
 use Rattle.network_demands.proofs.Follows.{state_kept, told_follows}
 use Rattle.network_demands.proofs.Turns.{goes_down_lem}
 use Rattle.network_demands.proofs.Way.{starts_not_full}
@@ -66,7 +66,7 @@ says_full n g t h r =
       restarts = λ u a. both_not (is_full_mode w.told);
       not_taken = λ u a. both_not (is_full_mode w.told);
       resets = λ u. refl;
-      ticks = move-says-full n w.step _ (decides n w)
+      ticks = move_says_full n w.step _ (decides n w)
           ∙ by_tick n w (SaysNow w.told) (says_now w.told (finished n w)) (state_kept n g h r.1).told;
     }) t r.0
     ∙ rw (full_told_lem n (t ∷ h) r, full_told_lem n h r.1) refl
@@ -82,9 +82,9 @@ ran_earlier n (e ∷ s) h r = ran_earlier n s h r.1
 
 -- a number is reached now and was not before
 pub just_reached : (d t : ℕ) → (leb d (suc t) && not (leb d t)) ≡ eqb d (suc t)
-just_reached d t = by-test (leb d (suc t)) (leb d t) refl refl
+just_reached d t = by_test (leb d (suc t)) (leb d t) refl refl
   where
-    by-test : (a c : Bool) → leb d (suc t) ≡ a → leb d t ≡ c → (a && not c) ≡ eqb d (suc t)
-    by-test true true p q = sym (ne_eqb d (suc t) (λ e. omega (arith, leb-true d t q, e)))
-    by-test true false p q = sym (eq-eqb d (suc t) (omega (arith, leb-true d (suc t) p, leb-false d t q)))
-    by-test false c p q = sym (ne_eqb d (suc t) (λ e. omega (arith, leb-false d (suc t) p, e)))
+    by_test : (a c : Bool) → leb d (suc t) ≡ a → leb d t ≡ c → (a && not c) ≡ eqb d (suc t)
+    by_test true true p q = sym (ne_eqb d (suc t) (λ e. omega (arith, leb-true d t q, e)))
+    by_test true false p q = sym (eq-eqb d (suc t) (omega (arith, leb-true d (suc t) p, leb-false d t q)))
+    by_test false c p q = sym (ne_eqb d (suc t) (λ e. omega (arith, leb-false d (suc t) p, e)))

@@ -4,7 +4,7 @@ use Rattle.lists.proofs.Basics.{append-nil, Bool, true, false, ◌&&◌, ◌||�
 use Rattle.lists.proofs.Tests.{split}
 use Rattle.records.specs.Records.{mode_number}
 use Rattle.lists.specs.Lists.{any}
-use Rattle.lists.proofs.Any.{any-append-left, any-append-right, and_both}
+use Rattle.lists.proofs.Any.{any_append_left, any_append_right, and_both}
 use Rattle.settings.specs.declared.Network.{Network}
 use Rattle.settings.specs.Settings.{controllers_of}
 use Rattle.settings.specs.Good.{Distinct, InRange}
@@ -17,15 +17,15 @@ use Rattle.network_demands.specs.Own.{state_of, Ran}
 use Rattle.network_demands.proofs.Views.{by_part}
 use Rattle.network_demands.proofs.Follows.{state_kept, told_follows}
 use Rattle.network_demands.proofs.Way.{soonest}
-use Rattle.network_demands.proofs.Told.{told_exactly, never-sooner}
+use Rattle.network_demands.proofs.Told.{told_exactly, never_sooner}
 
 -- ---- what is said of every entry is said of the first and of the rest
 pub never_first : (p : Seen → Bool) (e : Seen) (h : OwnHistory) → never p (e ∷ h) → p e ≡ false
 unfolding any
-never_first p e h f = sym (or-false (p e)) ∙ any-append-left p (e ∷ []) h f
+never_first p e h f = sym (or-false (p e)) ∙ any_append_left p (e ∷ []) h f
 
 pub never_rest : (p : Seen → Bool) (e : Seen) (h : OwnHistory) → never p (e ∷ h) → never p h
-never_rest p e h f = any-append-right p (e ∷ []) h f
+never_rest p e h f = any_append_right p (e ∷ []) h f
 
 -- neither a bus_off_lem, nor a stall, nor a shutdown is no setback
 pub no_setbacks : (n : Network) (s : OwnHistory) → never fell s → never stalled s → never (shut n) s → never (setback n) s
@@ -57,49 +57,49 @@ unfolding since
 since_setback n s b h u f = since_on (setback n) s (b ∷ h) f ∙ rw u (append-nil s)
 
 module _ (n : Network) (s : OwnHistory) (b : Seen) (h : OwnHistory) (u : fell_up n b h ≡ true) (f : never (setback n) s) where
-  pub fell-back : setback n b ≡ true
-  fell-back = rw (and_both (fell b) (up n h) u).0 refl
+  pub fell_back : setback n b ≡ true
+  fell_back = rw (and_both (fell b) (up n h) u).0 refl
 
   -- after a bus_off_lem while up its delay is owed, and no stall came last
-  pub owed-bus-off : owed n (s ++ (b ∷ h)) ≡ delay_at n (b ∷ h)
+  pub owed_bus_off : owed n (s ++ (b ∷ h)) ≡ delay_at n (b ∷ h)
   unfolding owed
-  owed-bus-off = owed_on n s (b ∷ h) f ∙ rw ((and_both (fell b) (up n h) u).0, (and_both (fell b) (up n h) u).1) refl
+  owed_bus_off = owed_on n s (b ∷ h) f ∙ rw ((and_both (fell b) (up n h) u).0, (and_both (fell b) (up n h) u).1) refl
 
-  pub no-stall-last : after_stall n (s ++ (b ∷ h)) ≡ false
+  pub no_stall_last : after_stall n (s ++ (b ∷ h)) ≡ false
   unfolding after_stall
-  no-stall-last = stall_on n s (b ∷ h) f ∙ rw fell-back (no-stall b.sight (accepted b) (and_both (fell b) (up n h) u).0)
+  no_stall_last = stall_on n s (b ∷ h) f ∙ rw fell_back (no_stall b.sight (accepted b) (and_both (fell b) (up n h) u).0)
     where
-      no-stall : (sight : Sight) (accepted : Bool) → is_bus_off sight ≡ true → is_stall sight && accepted ≡ false
-      no-stall a_tick accepted e = refl
-      no-stall a_bus_off accepted e = refl
-      no-stall a_stall accepted e = absurd (false≢true e)
-      no-stall (an_answer controller mode ok) accepted e = refl
-      no-stall (a_request mode) accepted e = refl
-      no-stall (a_report report) accepted e = refl
-      no-stall nothing accepted e = refl
+      no_stall : (sight : Sight) (accepted : Bool) → is_bus_off sight ≡ true → is_stall sight && accepted ≡ false
+      no_stall a_tick accepted e = refl
+      no_stall a_bus_off accepted e = refl
+      no_stall a_stall accepted e = absurd (false≢true e)
+      no_stall (an_answer controller mode ok) accepted e = refl
+      no_stall (a_request mode) accepted e = refl
+      no_stall (a_report report) accepted e = refl
+      no_stall nothing accepted e = refl
 
 -- what is seen last is a stall that was accepted
 module _ (n : Network) (s : OwnHistory) (b : Seen) (h : OwnHistory) (u : stalled b ≡ true) (f : never (setback n) s) where
-  pub stalled-back : setback n b ≡ true
-  stalled-back = rw u (or-true (fell b))
+  pub stalled_back : setback n b ≡ true
+  stalled_back = rw u (or-true (fell b))
 
   -- after it no delay is owed, and it came last
-  pub owed-stall : owed n (s ++ (b ∷ h)) ≡ 0
+  pub owed_stall : owed n (s ++ (b ∷ h)) ≡ 0
   unfolding owed
-  owed-stall = owed_on n s (b ∷ h) f ∙ rw (stalled-back, not-fell b.sight (and_both (is_stall b.sight) (accepted b) u).0) refl
+  owed_stall = owed_on n s (b ∷ h) f ∙ rw (stalled_back, not_fell b.sight (and_both (is_stall b.sight) (accepted b) u).0) refl
     where
-      not-fell : (sight : Sight) → is_stall sight ≡ true → is_bus_off sight ≡ false
-      not-fell a_tick e = refl
-      not-fell a_bus_off e = absurd (false≢true e)
-      not-fell a_stall e = refl
-      not-fell (an_answer controller mode ok) e = refl
-      not-fell (a_request mode) e = refl
-      not-fell (a_report report) e = refl
-      not-fell nothing e = refl
+      not_fell : (sight : Sight) → is_stall sight ≡ true → is_bus_off sight ≡ false
+      not_fell a_tick e = refl
+      not_fell a_bus_off e = absurd (false≢true e)
+      not_fell a_stall e = refl
+      not_fell (an_answer controller mode ok) e = refl
+      not_fell (a_request mode) e = refl
+      not_fell (a_report report) e = refl
+      not_fell nothing e = refl
 
-  pub stall-last : after_stall n (s ++ (b ∷ h)) ≡ true
+  pub stall_last : after_stall n (s ++ (b ∷ h)) ≡ true
   unfolding after_stall
-  stall-last = stall_on n s (b ∷ h) f ∙ rw stalled-back u
+  stall_last = stall_on n s (b ∷ h) f ∙ rw stalled_back u
 
 -- one entry more does not make fewer
 tally_more : (p : Seen → Bool) (e : Seen) (s : OwnHistory) → tally p s ≤ tally p (e ∷ s)
@@ -137,65 +137,65 @@ not_one (suc (suc k)) e = ne_eqb 1 (suc (suc k)) (λ z. omega (arith, z))
 module _ (n : Network) (g : InRange n) (f : Distinct (controllers_of n)) where
   module _ (s : OwnHistory) (b : Seen) (h : OwnHistory) (r : Ran n (s ++ (b ∷ h))) where
     -- with no setback in s, full is told exactly if it is due
-    due-since : setback n b ≡ true → never (setback n) s → eqb 2 (told n (s ++ (b ∷ h))) ≡ duly n (owed n (s ++ (b ∷ h))) s (s ++ (b ∷ h))
-    due-since u c =
+    due_since : setback n b ≡ true → never (setback n) s → eqb 2 (told n (s ++ (b ∷ h))) ≡ duly n (owed n (s ++ (b ∷ h))) s (s ++ (b ∷ h))
+    due_since u c =
         told_exactly n g f (s ++ (b ∷ h)) r
         ∙ ap (λ (q : OwnHistory). duly n (owed n (s ++ (b ∷ h))) q (s ++ (b ∷ h))) (since_setback n s b h u c)
 
-    soon-since : setback n b ≡ true → never (setback n) s → ltb 0 (first_running n s) ≡ leb (soonest (after_stall n (s ++ (b ∷ h)))) (first_running n s)
-    soon-since u c =
+    soon_since : setback n b ≡ true → never (setback n) s → ltb 0 (first_running n s) ≡ leb (soonest (after_stall n (s ++ (b ∷ h)))) (first_running n s)
+    soon_since u c =
         let same = since_setback n s b h u c in
-        ap (λ (q : OwnHistory). ltb 0 (first_running n q)) (sym same) ∙ never-sooner n g f (s ++ (b ∷ h)) r
+        ap (λ (q : OwnHistory). ltb 0 (first_running n q)) (sym same) ∙ never_sooner n g f (s ++ (b ∷ h)) r
         ∙ ap (λ (q : OwnHistory). leb (soonest (after_stall n (s ++ (b ∷ h)))) (first_running n q)) same
 
     pub late_answers : LateAnswers n s b h
     late_answers u c x z =
         let calm = no_setbacks n s c x z in
-        let back = fell-back n s b h u calm in (
-          due-since back calm ∙ ap (λ (d : ℕ). duly n d s (s ++ (b ∷ h))) (owed-bus-off n s b h u calm),
+        let back = fell_back n s b h u calm in (
+          due_since back calm ∙ ap (λ (d : ℕ). duly n d s (s ++ (b ∷ h))) (owed_bus_off n s b h u calm),
           not_one (first_running n s)
-              (soon-since back calm ∙ ap (λ (y : Bool). leb (soonest y) (first_running n s)) (no-stall-last n s b h u calm)),
+              (soon_since back calm ∙ ap (λ (y : Bool). leb (soonest y) (first_running n s)) (no_stall_last n s b h u calm)),
         )
 
     pub late_after_stall : LateAfterStall n s b h
     late_after_stall u c x z =
         let calm = no_setbacks n s c x z in
-        let back = stalled-back n s b h u calm in (
-          due-since back calm ∙ ap (λ (d : ℕ). duly n d s (s ++ (b ∷ h))) (owed-stall n s b h u calm),
-          soon-since back calm ∙ ap (λ (y : Bool). leb (soonest y) (first_running n s)) (stall-last n s b h u calm),
+        let back = stalled_back n s b h u calm in (
+          due_since back calm ∙ ap (λ (d : ℕ). duly n d s (s ++ (b ∷ h))) (owed_stall n s b h u calm),
+          soon_since back calm ∙ ap (λ (y : Bool). leb (soonest y) (first_running n s)) (stall_last n s b h u calm),
         )
 
     -- demand 3, second sentence, of one network, where no stall was accepted since the bus_off_lem
-    unstalled-sentence : never stalled s → Delayed n s b h
-    unstalled-sentence x u c z t =
+    unstalled_sentence : never stalled s → Delayed n s b h
+    unstalled_sentence x u c z t =
         let y = late_answers u c x z in
         due_passed (first_running n s) (delay_at n (b ∷ h)) (tally ticked s) (eqb 2 (wanted_at_tick (s ++ (b ∷ h))))
         (sym y.0 ∙ ap (eqb 2) t) y.1
 
   module _ (b : Seen) (h : OwnHistory) (u : fell_up n b h ≡ true) where
     -- where one was, full was told before it, so that the delay and two ticks had passed already
-    stalled-later : (s : OwnHistory) → Ran n (s ++ (b ∷ h)) → never fell s → never (shut n) s → any stalled s ≡ true
+    stalled_later : (s : OwnHistory) → Ran n (s ++ (b ∷ h)) → never fell s → never (shut n) s → any stalled s ≡ true
         → delay_at n (b ∷ h) + 2 ≤ tally ticked s
     unfolding Ran any
-    stalled-later [] r c z x = absurd (false≢true x)
-    stalled-later (e ∷ s) r c z x =
-        by-test (any stalled s) refl (stalled e) refl x (stalled-later s r.1 (never_rest fell e s c) (never_rest (shut n) e s z))
+    stalled_later [] r c z x = absurd (false≢true x)
+    stalled_later (e ∷ s) r c z x =
+        by_test (any stalled s) refl (stalled e) refl x (stalled_later s r.1 (never_rest fell e s c) (never_rest (shut n) e s z))
       where
-        by-test : (earlier : Bool) → any stalled s ≡ earlier → (now : Bool) → stalled e ≡ now → now || earlier ≡ true
+        by_test : (earlier : Bool) → any stalled s ≡ earlier → (now : Bool) → stalled e ≡ now → now || earlier ≡ true
             → (any stalled s ≡ true → delay_at n (b ∷ h) + 2 ≤ tally ticked s) → delay_at n (b ∷ h) + 2 ≤ tally ticked (e ∷ s)
-        by-test true a now q y before = omega (arith, before a, tally_more ticked e s)
-        by-test false a true q y before =
+        by_test true a now q y before = omega (arith, before a, tally_more ticked e s)
+        by_test false a true q y before =
             omega (
               arith,
-              unstalled-sentence s b h r.1 a u (never_rest fell e s c) (never_rest (shut n) e s z)
+              unstalled_sentence s b h r.1 a u (never_rest fell e s c) (never_rest (shut n) e s z)
                   (stalls_when_full n g e (s ++ (b ∷ h)) r q),
               tally_more ticked e s,
             )
-        by-test false a false q y before = absurd (false≢true y)
+        by_test false a false q y before = absurd (false≢true y)
 
-  pub second-sentence : (s : OwnHistory) (b : Seen) (h : OwnHistory) → Ran n (s ++ (b ∷ h)) → Delayed n s b h
-  second-sentence s b h r u c z t = by-test (any stalled s) refl
+  pub second_sentence : (s : OwnHistory) (b : Seen) (h : OwnHistory) → Ran n (s ++ (b ∷ h)) → Delayed n s b h
+  second_sentence s b h r u c z t = by_test (any stalled s) refl
     where
-      by-test : (a : Bool) → any stalled s ≡ a → delay_at n (b ∷ h) + 2 ≤ tally ticked s
-      by-test true x = stalled-later b h u s r c z x
-      by-test false x = unstalled-sentence s b h r x u c z t
+      by_test : (a : Bool) → any stalled s ≡ a → delay_at n (b ∷ h) + 2 ≤ tally ticked s
+      by_test true x = stalled_later b h u s r c z x
+      by_test false x = unstalled_sentence s b h r x u c z t

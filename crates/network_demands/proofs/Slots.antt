@@ -3,8 +3,8 @@ use Rattle.lists.proofs.Basics.{ℕ, zero, suc, ◌<◌, arith, eqb-true, eqb-fa
 use Rattle.lists.proofs.Basics.{append_assoc, Bool, true, false, not, ◌||◌, or-true, false≢true, or-false, eqb, length, get_or, take, set}
 use Rattle.lists.proofs.Basics.{get_or-set_same, get_or-set_other}
 use Rattle.lists.specs.Lists.{any, every, first}
-use Rattle.lists.proofs.Any.{any-append-left, any-append-right, every-cons, every-false, every_at, or_second, first_below, first_passes}
-use Rattle.lists.proofs.Parts.{padded-length}
+use Rattle.lists.proofs.Any.{any_append_left, any_append_right, every_cons, every_false, every_at, or_second, first_below, first_passes}
+use Rattle.lists.proofs.Parts.{padded_length}
 use Rattle.settings.specs.declared.Network.{Network}
 use Rattle.settings.specs.Settings.{controllers_of, member}
 use Rattle.settings.specs.Good.{Fresh, Distinct, InRange}
@@ -23,27 +23,27 @@ use Rattle.network_demands.proofs.Views.{seat_of}
 pub any_member : (p : ℕ → Bool) (c : ℕ) (l : List ℕ) → member c l ≡ true → p c ≡ true → any p l ≡ true
 unfolding any
 any_member p c [] m e = absurd (false≢true m)
-any_member p c (x ∷ l) m e = by-test (eqb x c) refl m (λ f. any_member p c l f e)
+any_member p c (x ∷ l) m e = by_test (eqb x c) refl m (λ f. any_member p c l f e)
   where
-    by-test : (b : Bool) → eqb x c ≡ b → b || member c l ≡ true → (member c l ≡ true → any p l ≡ true) → p x || any p l ≡ true
-    by-test true q f ih = rw (ap p (eqb-true x c q) ∙ e) refl
-    by-test false q f ih = rw (ih f) (or-true (p x))
+    by_test : (b : Bool) → eqb x c ≡ b → b || member c l ≡ true → (member c l ≡ true → any p l ≡ true) → p x || any p l ≡ true
+    by_test true q f ih = rw (ap p (eqb-true x c q) ∙ e) refl
+    by_test false q f ih = rw (ih f) (or-true (p x))
 
 -- a test that all pass is passed by each member
 pub every_member : (p : ℕ → Bool) (c : ℕ) (l : List ℕ) → every p l ≡ true → member c l ≡ true → p c ≡ true
-every_member p c l e m = by-test (p c) refl
+every_member p c l e m = by_test (p c) refl
   where
-    by-test : (b : Bool) → p c ≡ b → b ≡ true
-    by-test true q = refl
-    by-test false q =
-        absurd (false≢true (sym (every-false p l (any_member (λ (x : ℕ). not (p x)) c l m (ap not q))) ∙ e))
+    by_test : (b : Bool) → p c ≡ b → b ≡ true
+    by_test true q = refl
+    by_test false q =
+        absurd (false≢true (sym (every_false p l (any_member (λ (x : ℕ). not (p x)) c l m (ap not q))) ∙ e))
 
 -- and one that each member passes is passed by all
 pub each_member : (p : ℕ → Bool) (l : List ℕ) → ((c : ℕ) → member c l ≡ true → p c ≡ true) → every p l ≡ true
 unfolding every any
 each_member p [] f = refl
 each_member p (x ∷ l) f =
-    every-cons p x l ∙ rw (f x (rw (eqb_same x) refl), each_member p l (λ c m. f c (or_second (eqb x c) _ m))) refl
+    every_cons p x l ∙ rw (f x (rw (eqb_same x) refl), each_member p l (λ c m. f c (or_second (eqb x c) _ m))) refl
 
 -- two tests that pass together are one
 both_ways : (a b : Bool) → (a ≡ true → b ≡ true) → (b ≡ true → a ≡ true) → a ≡ b
@@ -61,11 +61,11 @@ every_same p q l f =
 fresh_apart : (e l : List ℕ) → Fresh e l → (c : ℕ) → member c l ≡ true → member c e ≡ false
 unfolding any Fresh
 fresh_apart e [] f c m = absurd (false≢true m)
-fresh_apart e (x ∷ l) f c m = by-test (eqb x c) refl m (λ q. fresh_apart (e ++ (x ∷ [])) l f.1 c q)
+fresh_apart e (x ∷ l) f c m = by_test (eqb x c) refl m (λ q. fresh_apart (e ++ (x ∷ [])) l f.1 c q)
   where
-    by-test : (b : Bool) → eqb x c ≡ b → b || member c l ≡ true → (member c l ≡ true → member c (e ++ (x ∷ [])) ≡ false) → member c e ≡ false
-    by-test true q g ih = ap (λ (y : ℕ). member y e) (sym (eqb-true x c q)) ∙ f.0
-    by-test false q g ih = any-append-left (λ (y : ℕ). eqb y c) e (x ∷ []) (ih g)
+    by_test : (b : Bool) → eqb x c ≡ b → b || member c l ≡ true → (member c l ≡ true → member c (e ++ (x ∷ [])) ≡ false) → member c e ≡ false
+    by_test true q g ih = ap (λ (y : ℕ). member y e) (sym (eqb-true x c q)) ∙ f.0
+    by_test false q g ih = any_append_left (λ (y : ℕ). eqb y c) e (x ∷ []) (ih g)
 
 -- fresh numbers are pairwise different
 pub fresh_distinct : (e l : List ℕ) → Fresh e l → Distinct l
@@ -75,7 +75,7 @@ fresh_distinct e l f = fewer e [] l (rw (append-nil e) f)
     fewer : (e d l : List ℕ) → Fresh (e ++ d) l → Fresh d l
     fewer e d [] f = tt
     fewer e d (x ∷ l) f = (
-      any-append-right (λ (y : ℕ). eqb y x) e d f.0,
+      any_append_right (λ (y : ℕ). eqb y x) e d f.0,
       fewer e (d ++ (x ∷ [])) l (subst (λ (k : List ℕ). Fresh k l) (append_assoc e d (x ∷ [])) f.1),
     )
 
@@ -92,7 +92,7 @@ pub slot_in_use : (n : Network) (s : State) (c : ℕ) →
     InRange n → Kept n s → member c (controllers_of n) ≡ true → (seat_of n c < n.count) × (seat_of n c < length s.answers)
 slot_in_use n s c g k m =
     let a = controllers_counted n g in
-    let b : length s.answers ≡ 4 = padded-length 4 (heard LastAnswer.Pending) s.answers n.count g.few_controllers k.slots in
+    let b : length s.answers ≡ 4 = padded_length 4 (heard LastAnswer.Pending) s.answers n.count g.few_controllers k.slots in
     let f = first_below (λ (x : ℕ). eqb x c) (controllers_of n) m in
     let few = g.few_controllers in
     (omega arith, omega arith)
@@ -132,11 +132,11 @@ each_okay e [] hs f o = refl
 each_okay e (x ∷ ids) [] f o = refl
 each_okay e (x ∷ ids) (h ∷ hs) f o =
     let g = each_okay (e ++ (x ∷ [])) ids hs f.1 (λ c m. rw (apart c m) at (o c (rw (apart c m) m))) in
-    every-cons is_okay h (take (length ids) hs)
+    every_cons is_okay h (take (length ids) hs)
     ∙ rw (rw (eqb_same x) at (o x (rw (eqb_same x) refl)), g) refl
   where
     apart : (c : ℕ) → member c ids ≡ true → eqb x c ≡ false
-    apart c m = sym (or-false (eqb x c)) ∙ any-append-right (λ (y : ℕ). eqb y c) e (x ∷ []) (fresh_apart (e ++ (x ∷ [])) ids f.1 c m)
+    apart c m = sym (or-false (eqb x c)) ∙ any_append_right (λ (y : ℕ). eqb y c) e (x ∷ []) (fresh_apart (e ++ (x ∷ [])) ids f.1 c m)
 
 -- all answers are ok exactly if each controller's is
 pub all_okay : (n : Network) (s : State) → InRange n → Distinct (controllers_of n) → Kept n s

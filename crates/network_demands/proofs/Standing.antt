@@ -14,7 +14,7 @@ use Rattle.steps.specs.declared.Ask.{Ask}
 use Rattle.steps.specs.declared.Outfit.{Outfit}
 use Rattle.steps.specs.declared.Move.{Move}
 use Rattle.steps.specs.Steps.{phase_of, asks_for, is_on, is_up, asks_to_start}
-use Rattle.steps.specs.After.{first_down, step_after}
+use Rattle.steps.specs.After.{first_down, step_after_lem}
 use Rattle.handing.specs.Handing.{move_records, recovery, reset}
 use Rattle.network.specs.declared.Report.{Report}
 use Rattle.network.specs.declared.State.{State}
@@ -29,12 +29,12 @@ use Rattle.network_theorems.proofs.Moves.{full_quiet}
 use Rattle.network_demands.specs.Words.{hands, Seen, OwnHistory, since, is_tick, shut, wanted, rested, called_up, on, awaited, asked_to_start}
 use Rattle.network_demands.specs.Own.{finished, decides, reaches, played, state_of, Fits, Ran}
 use Rattle.network_demands.proofs.Views.{either_way, seen, by_part}
-use Rattle.network_demands.proofs.Handed.{is_go_down, is_end, move-shuts, move-says-no, given, nothing_lowered}
+use Rattle.network_demands.proofs.Handed.{is_go_down, is_end, move_shuts, move_says_no, given, nothing_lowered}
 use Rattle.network_demands.proofs.Up.{any_since}
 use Rattle.network_demands.proofs.Follows.{state_kept, wanted_follows}
 use Rattle.network_demands.proofs.Arrows.{suits, own_outfit, rested_phase, has_rested, has_begun, up_on, up_rested, first_down_lem, ByArrow}
 use Rattle.network_demands.proofs.Arrows.{by_tick_arrow}
-use Rattle.network_demands.proofs.Given.{of_requests, Requested, start-given}
+use Rattle.network_demands.proofs.Given.{of_requests, Requested, start_given}
 
 -- ---- where it stands
 pub record StandsIn (n : Network) (step : Step) (h : OwnHistory) : Type 0 where
@@ -46,14 +46,14 @@ pub record StandsIn (n : Network) (step : Step) (h : OwnHistory) : Type 0 where
 -- ---- the first down step
 -- with partial networking the outfit has all that is asked
 first_suits : (n : Network) → InRange n → suits (own_outfit n) (first_down n.partial) ≡ true
-first_suits n g = by-fit n.transceiver n.partial g.partial
+first_suits n g = by_fit_lem n.transceiver n.partial g.partial
   where
-    by-fit : (t : Transceiver) (partial : Bool) → (partial ≡ true → t ≡ Transceiver.Absent → ⊥)
+    by_fit_lem : (t : Transceiver) (partial : Bool) → (partial ≡ true → t ≡ Transceiver.Absent → ⊥)
         → suits (outfit_of t partial) (first_down partial) ≡ true
-    by-fit Transceiver.Absent true f = absurd (f refl refl)
-    by-fit Transceiver.Absent false f = refl
-    by-fit (Transceiver.Present id) true f = refl
-    by-fit (Transceiver.Present id) false f = refl
+    by_fit_lem Transceiver.Absent true f = absurd (f refl refl)
+    by_fit_lem Transceiver.Absent false f = refl
+    by_fit_lem (Transceiver.Present id) true f = refl
+    by_fit_lem (Transceiver.Present id) false f = refl
 
 -- it is in no group
 down_groups : (b : Bool) → (has_rested (first_down b) ≡ false) × (is_on (first_down b) ≡ false) × (has_begun (first_down b) ≡ false)
@@ -62,12 +62,12 @@ down_groups b = let d = first_down_lem b in rw (d.falls, d.starts_not) (refl, re
 -- ---- ticks
 -- what a move makes of the groups of steps, wanted being what is wanted
 record Carries (n : Network) (step : Step) (wanted : Mode) (m : Move) : Type 0 where
-  rested : cond (is_go_down m) false (is_end m || has_rested step) ≡ has_rested (step_after m step n.partial)
+  rested : cond (is_go_down m) false (is_end m || has_rested step) ≡ has_rested (step_after_lem m step n.partial)
   on : cond (is_go_down m) false (cond (is_end m) false ((has_rested step && eqb 2 (mode_number wanted)) || is_on step))
-      ≡ is_on (step_after m step n.partial)
+      ≡ is_on (step_after_lem m step n.partial)
   begun : (told : Mode) → cond (is_go_down m) false (given (of_requests asks_to_start) n.partial step told m || has_begun step)
-      ≡ has_begun (step_after m step n.partial)
-  suited : suits (own_outfit n) (step_after m step n.partial) ≡ true
+      ≡ has_begun (step_after_lem m step n.partial)
+  suited : suits (own_outfit n) (step_after_lem m step n.partial) ≡ true
 
 -- what was so is so once more
 once_more : (a b : Bool) → a || (b || a) ≡ b || a
@@ -141,10 +141,10 @@ both_on false false false w c = refl
 
 module _ (n : Network) (h : OwnHistory) where
   -- what is no tick and hands out nothing
-  stands-quiet : (step : Step) (sight : Sight) (number : ℕ) → is_tick sight ≡ false → StandsIn n step h
+  stands_quiet : (step : Step) (sight : Sight) (number : ℕ) → is_tick sight ≡ false → StandsIn n step h
       → StandsIn n step (seen sight number [] ∷ h)
   unfolding since any called_up
-  stands-quiet step sight number t i =
+  stands_quiet step sight number t i =
       record { rested = i.rested; on = rw t i.on; begun = i.begun; suited = i.suited }
 
   -- a bus_off_lem while up, or a stall: the network is up before it and after it
@@ -152,11 +152,11 @@ module _ (n : Network) (h : OwnHistory) where
     abbrev striking : Seen
     striking = seen sight 0 records
 
-    stands-struck : is_tick sight ≡ false → hands 6 n.handle 0 striking ≡ false → shut n striking ≡ false
+    stands_struck : is_tick sight ≡ false → hands 6 n.handle 0 striking ≡ false → shut n striking ≡ false
         → ((c : ℕ) → hands 1 c 1 striking ≡ false) → is_up step ≡ true → is_up next ≡ true → suits (own_outfit n) next ≡ true
         → StandsIn n step h → StandsIn n next (striking ∷ h)
     unfolding called_up
-    stands-struck t silence down starts u v suited i =
+    stands_struck t silence down starts u v suited i =
         let rests : rested n (striking ∷ h) ≡ true =
         any_since (hands 6 n.handle 0) (shut n) striking h ∙ rw (silence, down) (i.rested ∙ up_rested (phase_of step) u) in
         let called : called_up n (striking ∷ h) ≡ true =
@@ -173,35 +173,35 @@ module _ (n : Network) (h : OwnHistory) where
     abbrev ticking : Seen
     ticking = seen a_tick 0 (move_records n step told m)
 
-    called-move : called_up n (ticking ∷ h) ≡ cond (is_end m) false (eqb 2 (wanted h) || called_up n h)
+    called_move : called_up n (ticking ∷ h) ≡ cond (is_end m) false (eqb 2 (wanted h) || called_up n h)
     unfolding called_up
-    called-move = rw (move-says-no n step told m) refl
+    called_move = rw (move_says_no n step told m) refl
 
-    stands-move : mode_number mode ≡ wanted h → StandsIn n step h → Carries n step mode m
-        → StandsIn n (step_after m step n.partial) (ticking ∷ h)
-    stands-move w i k = record {
+    stands_move : mode_number mode ≡ wanted h → StandsIn n step h → Carries n step mode m
+        → StandsIn n (step_after_lem m step n.partial) (ticking ∷ h)
+    stands_move w i k = record {
       rested = any_since (hands 6 n.handle 0) (shut n) ticking h
-          ∙ rw (move-shuts n step told m, move-says-no n step told m, i.rested) k.rested;
+          ∙ rw (move_shuts n step told m, move_says_no n step told m, i.rested) k.rested;
       on = ap (λ (b : Bool). b && called_up n (ticking ∷ h)) (any_since (hands 6 n.handle 0) (shut n) ticking h)
-          ∙ rw (move-shuts n step told m, move-says-no n step told m, called-move)
+          ∙ rw (move_shuts n step told m, move_says_no n step told m, called_move)
           (both_on (is_go_down m) (is_end m) (rested n h) (eqb 2 (wanted h)) (called_up n h)
           ∙ rw (i.on, i.rested, ← w) k.on);
       begun = λ c own. any_since (hands 1 c 1) (shut n) ticking h
-          ∙ rw (move-shuts n step told m, start-given n c own step told m, i.begun c own) (k.begun told);
+          ∙ rw (move_shuts n step told m, start_given n c own step told m, i.begun c own) (k.begun told);
       suited = k.suited;
     }
 
-  stands-call : InRange n → (s : State) → Kept n s → mode_number s.wanted ≡ wanted h → StandsIn n s.step h → (e : Seen) → Fits n s e
+  stands_call : InRange n → (s : State) → Kept n s → mode_number s.wanted ≡ wanted h → StandsIn n s.step h → (e : Seen) → Fits n s e
       → StandsIn n (played n s e.sight).state.step (e ∷ h)
   unfolding after_move after_hit made_anew any recovery reset
-  stands-call g s k w i = by_part n s (λ e t. StandsIn n t.step (e ∷ h)) (record {
-    plain = λ sight number mode reported p. stands-quiet s.step sight number p.tick i;
-    hears = λ c mode ok m l e. stands-quiet s.step _ 0 refl i;
-    recovers = λ u. stands-struck s.step _ a_bus_off (recovery n.handle) refl refl refl (λ c. refl) u refl refl i;
-    restarts = λ u a. stands-quiet s.step a_bus_off 0 refl i;
-    not_taken = λ u a. stands-quiet s.step a_bus_off 0x22 refl i;
-    resets = λ f. stands-struck s.step _ a_stall (reset n.handle) refl refl refl (λ c. refl) (full_quiet s.step f).up refl refl i;
-    ticks = stands-move s.step s.wanted _ (decides n s) w i
+  stands_call g s k w i = by_part n s (λ e t. StandsIn n t.step (e ∷ h)) (record {
+    plain = λ sight number mode reported p. stands_quiet s.step sight number p.tick i;
+    hears = λ c mode ok m l e. stands_quiet s.step _ 0 refl i;
+    recovers = λ u. stands_struck s.step _ a_bus_off (recovery n.handle) refl refl refl (λ c. refl) u refl refl i;
+    restarts = λ u a. stands_quiet s.step a_bus_off 0 refl i;
+    not_taken = λ u a. stands_quiet s.step a_bus_off 0x22 refl i;
+    resets = λ f. stands_struck s.step _ a_stall (reset n.handle) refl refl refl (λ c. refl) (full_quiet s.step f).up refl refl i;
+    ticks = stands_move s.step s.wanted _ (decides n s) w i
         (by_tick_arrow n s (Carries n) (carries n g (finished n s) (reaches n s)) i.suited k);
   })
 
@@ -212,14 +212,14 @@ stands n g [] r =
     let d = down_groups n.partial in
     record { rested = sym d.0; on = sym d.1; begun = λ c m. sym d.2; suited = first_suits n g }
 stands n g (e ∷ h) r =
-    stands-call n h g (state_of n h) (state_kept n g h r.1) (wanted_follows n h r.1) (stands n g h r.1) e r.0
+    stands_call n h g (state_of n h) (state_kept n g h r.1) (wanted_follows n h r.1) (stands n g h r.1) e r.0
 
 -- ---- what it waits for
 -- a request that stands asked for, by the move: it is handed out exactly where the step after it asks for just that
 abbrev AsksNow : Bool → Report → Step → Mode → Move → Type 0
 AsksNow partial report step wanted m =
     (told : Mode) (asked : Bool) → given (of_requests (λ (ask : Ask). awaits ask report)) partial step told m
-    ≡ cond (asks_after m asked) (awaits (asks_for (step_after m step partial)) report) false
+    ≡ cond (asks_after m asked) (awaits (asks_for (step_after_lem m step partial)) report) false
 
 asks_now : (partial done reached : Bool) (outfit : Outfit) (report : Report) → ByArrow done reached outfit (AsksNow partial report)
 asks_now partial done reached outfit report = record {
@@ -245,11 +245,11 @@ asks_now partial done reached outfit report = record {
 }
 
 module _ (n : Network) (kind target argument : ℕ) (report : Report) (q : Requested n kind target argument report) where
-  awaits-call : (h : OwnHistory) (s : State) → Kept n s → suits (own_outfit n) s.step ≡ true
+  awaits_call : (h : OwnHistory) (s : State) → Kept n s → suits (own_outfit n) s.step ≡ true
       → awaited kind target argument h ≡ takes_report s report → (e : Seen) → Fits n s e
       → awaited kind target argument (e ∷ h) ≡ takes_report (played n s e.sight).state report
   unfolding awaited takes_report after_move after_hit made_anew any
-  awaits-call h s k u i = by_part n s (λ e t. awaited kind target argument (e ∷ h) ≡ takes_report t report) (record {
+  awaits_call h s k u i = by_part n s (λ e t. awaited kind target argument (e ∷ h) ≡ takes_report t report) (record {
     plain = λ sight number mode reported p. rw (p.tick, p.bus_off_lem, p.stall) i;
     hears = λ c mode ok m l e. i;
     recovers = λ u. refl;
@@ -262,8 +262,8 @@ module _ (n : Network) (kind target argument : ℕ) (report : Report) (q : Reque
   })
 
   -- it stands asked for exactly where the network takes what answers it
-  pub awaited-takes : InRange n → (h : OwnHistory) → Ran n h → awaited kind target argument h ≡ takes_report (state_of n h) report
+  pub awaited_takes : InRange n → (h : OwnHistory) → Ran n h → awaited kind target argument h ≡ takes_report (state_of n h) report
   unfolding awaited takes_report state_of Ran started
-  awaited-takes g [] r = refl
-  awaited-takes g (e ∷ h) r =
-      awaits-call h (state_of n h) (state_kept n g h r.1) (stands n g h r.1).suited (awaited-takes g h r.1) e r.0
+  awaited_takes g [] r = refl
+  awaited_takes g (e ∷ h) r =
+      awaits_call h (state_of n h) (state_kept n g h r.1) (stands n g h r.1).suited (awaited_takes g h r.1) e r.0

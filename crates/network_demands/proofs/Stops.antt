@@ -14,7 +14,7 @@ use Rattle.steps.specs.declared.Step.TheVariants.{ResetStopped}
 use Rattle.steps.specs.declared.Phase.{Phase}
 use Rattle.steps.specs.declared.Move.{Move}
 use Rattle.steps.specs.Steps.{step_number, phase_of, asks_for, timer_of, is_up, asks_to_start}
-use Rattle.steps.specs.After.{first_down, step_after}
+use Rattle.steps.specs.After.{first_down, step_after_lem}
 use Rattle.steps.proofs.Laws.{InPhase, in_phase}
 use Rattle.network.specs.declared.LastAnswer.{LastAnswer}
 use Rattle.network.specs.declared.Heard.{Heard}
@@ -31,8 +31,8 @@ use Rattle.network_demands.specs.Words.{Seen, OwnHistory, since, tally, ticked, 
 use Rattle.network_demands.specs.Own.{finished, decides, reaches, tick_after, tick_hands, played, state_of, Fits, Ran}
 use Rattle.network_demands.specs.Promises.{said_ok, Stopped}
 use Rattle.network_demands.proofs.Views.{seen, seat_of, by_part}
-use Rattle.network_demands.proofs.Tests.{once_asked, done-answered}
-use Rattle.network_demands.proofs.Handed.{is_go_down, move-shuts}
+use Rattle.network_demands.proofs.Tests.{once_asked, done_answered}
+use Rattle.network_demands.proofs.Handed.{is_go_down, move_shuts}
 use Rattle.network_demands.proofs.Slots.{slot_in_use, said_okay, no_answer_yet}
 use Rattle.network_demands.proofs.Follows.{state_kept}
 use Rattle.network_demands.proofs.Running.{since_by, asked_first}
@@ -41,7 +41,7 @@ use Rattle.network_demands.proofs.Way.{way_of, is_stall_cause, Late, Stands}
 use Rattle.network_demands.proofs.Arrows.{suits, own_outfit, rested_phase, has_rested, first_down_lem, ByArrow, by_tick_arrow}
 use Rattle.network_demands.proofs.Standing.{stands}
 use Rattle.network_demands.proofs.Told.{stands_at}
-use Rattle.network_demands.proofs.Readied.{said-on, heard-stopped}
+use Rattle.network_demands.proofs.Readied.{said_on, heard_stopped}
 
 -- ---- in step 15, q being what follows the last setback
 -- a controller whose last answer here is ok said so on stopped
@@ -61,7 +61,7 @@ module _ (n : Network) (answers : List Heard) (q : OwnHistory) (records : List R
   -- what a move makes of it
   abbrev Moves : Step → Mode → Move → Type 0
   Moves step wanted m = Stopping n step answers q
-      → Stopping n (step_after m step n.partial) (cond (keeps_answers m) answers blank_answers) (cond (is_go_down m) [] (seen a_tick 0 records ∷ q))
+      → Stopping n (step_after_lem m step n.partial) (cond (keeps_answers m) answers blank_answers) (cond (is_go_down m) [] (seen a_tick 0 records ∷ q))
 
   moves : ByArrow done reached (own_outfit n) Moves
   unfolding said_ok
@@ -94,36 +94,36 @@ module _ (n : Network) (g : InRange n) (h : OwnHistory) (s : State) (kept : Kept
   Still e t = Stopping n t.step t.answers (since (setback n) (e ∷ h))
 
   -- an answer that step 15 takes is one on stopped
-  taken-stopped : (mode : ℕ) → takes_report s (Report.Controller mode) ≡ true → s.step ≡ ResetStopped → eqb 0 mode ≡ true
+  taken_stopped : (mode : ℕ) → takes_report s (Report.Controller mode) ≡ true → s.step ≡ ResetStopped → eqb 0 mode ≡ true
   unfolding takes_report
-  taken-stopped mode t f =
+  taken_stopped mode t f =
       sym (ap (λ (x : Step). awaits (asks_for x) (Report.Controller mode)) f) ∙ once_asked s.asked _ t
 
-  stopping-tick : Still (seen a_tick 0 (tick_hands n s)) (tick_after n s)
+  stopping_tick : Still (seen a_tick 0 (tick_hands n s)) (tick_after n s)
   unfolding after_move
-  stopping-tick =
+  stopping_tick =
       let e : Seen = seen a_tick 0 (tick_hands n s) in
       let m = decides n s in
-      rw (since_by n e h (is_go_down m) (move-shuts n s.step _ m))
+      rw (since_by n e h (is_go_down m) (move_shuts n s.step _ m))
       (by_tick_arrow n s (Moves n s.answers (since (setback n) h) (tick_hands n s) (finished n s) (reaches n s))
       (moves n s.answers (since (setback n) h) (tick_hands n s) (finished n s) (reaches n s)) u kept i)
 
-  stopping-call : (e : Seen) → Fits n s e → Still e (played n s e.sight).state
+  stopping_call : (e : Seen) → Fits n s e → Still e (played n s e.sight).state
   unfolding any after_hit made_anew
-  stopping-call = by_part n s Still (record {
+  stopping_call = by_part n s Still (record {
     plain = λ sight number mode reported p f c m o.
         let e : Seen = seen sight number [] in
         ap (said_ok c 0) (since_by n e h false (rw (p.bus_off_lem, p.stall) refl))
-        ∙ said-on n e (since (setback n) h) c (p.answer c 0 1 m) (p.answer c 0 0 m) ∙ i f c m o;
+        ∙ said_on n e (since (setback n) h) c (p.answer c 0 1 m) (p.answer c 0 0 m) ∙ i f c m o;
     hears = λ c mode ok m l t f d own o.
         let e : Seen = seen (an_answer c mode ok) 0 [] in
         ap (said_ok d 0) (since_by n e h false refl)
-        ∙ heard-stopped n g s kept c mode ok l (since (setback n) h) m (taken-stopped mode t f) d own (i f d own) o;
+        ∙ heard_stopped n g s kept c mode ok l (since (setback n) h) m (taken_stopped mode t f) d own (i f d own) o;
     recovers = λ _. other _ 6 refl (λ e. omega (arith, e));
     restarts = λ _ a f. absurd (false≢true (sym (ap (λ (x : Step). asks_to_start (asks_for x)) f) ∙ a));
     not_taken = λ b _ f. absurd (true≢false (sym (ap is_up f) ∙ b));
     resets = λ _ f c m o. absurd (false≢true (sym (no_answer_yet n c) ∙ o));
-    ticks = stopping-tick;
+    ticks = stopping_tick;
   })
 
 -- from the start on
@@ -132,7 +132,7 @@ stopping_at : (n : Network) → InRange n → (h : OwnHistory) → Ran n h → l
 unfolding state_of Ran started
 stopping_at n g [] r = down_not (first_down n.partial) (first_down_lem n.partial).falls
 stopping_at n g (e ∷ h) r =
-    stopping-call n g h (state_of n h) (state_kept n g h r.1) (stands n g h r.1).suited (stopping_at n g h r.1) e r.0
+    stopping_call n g h (state_of n h) (state_kept n g h r.1) (stands n g h r.1).suited (stopping_at n g h r.1) e r.0
 
 -- ---- the first request to start since a stall
 -- where the last setback was a stall and a controller was not asked to start since, the network is stopping
@@ -140,12 +140,12 @@ unasked_stopping : (n : Network) (way : Way) (asked : Bool) (answers : List Hear
     → Stands n way asked answers count q d w true → (c : ℕ) → member c (controllers_of n) ≡ true → asked_to_start c q ≡ false → way ≡ stopping
 unasked_stopping n away asked answers count d w q i c m a = absurd (true≢false i.1)
 unasked_stopping n stopping asked answers count d w q i c m a = refl
-unasked_stopping n (starting cause) asked answers count d w q i c m a = absurd (by-cause cause i.why i.late)
+unasked_stopping n (starting cause) asked answers count d w q i c m a = absurd (by_cause cause i.why i.late)
   where
-    by-cause : (cause : Cause) → true ≡ is_stall_cause cause → Late cause (tally ticked q) → ⊥
-    by-cause coming_up e l = absurd (true≢false e)
-    by-cause bus_off e l = absurd (true≢false e)
-    by-cause stall e l =
+    by_cause : (cause : Cause) → true ≡ is_stall_cause cause → Late cause (tally ticked q) → ⊥
+    by_cause coming_up e l = absurd (true≢false e)
+    by_cause bus_off e l = absurd (true≢false e)
+    by_cause stall e l =
         absurd (true≢false (sym (i.requested c m ∙ i.sent ∙ lt-ltb 0 (tally ticked q) (omega (arith, l))) ∙ a))
 unasked_stopping n (delayed t) asked answers count d w q i c m a = absurd (true≢false (sym (i.0.all c m) ∙ asked_first c q a))
 unasked_stopping n there asked answers count d w q i c m a = absurd (true≢false (sym (i.0.all c m) ∙ asked_first c q a))
@@ -161,37 +161,37 @@ is_stopping there = false
 is_stopping silenced = false
 
 stopping_step : (step : Step) → is_stopping (way_of step) ≡ true → step ≡ ResetStopped
-stopping_step step e = by-test (asks_to_start (asks_for step)) refl e
+stopping_step step e = by_test (asks_to_start (asks_for step)) refl e
   where
-    by-phase : (phase : Phase) → InPhase phase step → asks_to_start (asks_for step) ≡ false → is_stopping (way_in phase (timer_of step)) ≡ true
+    by_phase : (phase : Phase) → InPhase phase step → asks_to_start (asks_for step) ≡ false → is_stopping (way_in phase (timer_of step)) ≡ true
         → step ≡ ResetStopped
-    by-phase Phase.Off p a e = absurd (false≢true e)
-    by-phase Phase.Rising p a e = absurd (false≢true e)
-    by-phase Phase.Checking p a e = absurd (false≢true e)
-    by-phase Phase.Full p a e = absurd (false≢true e)
-    by-phase Phase.Recovering p a e = absurd (false≢true e)
-    by-phase Phase.Silent p a e = absurd (false≢true e)
-    by-phase Phase.Falling p a e = absurd (false≢true e)
-    by-phase Phase.Resetting p a e = p a
+    by_phase Phase.Off p a e = absurd (false≢true e)
+    by_phase Phase.Rising p a e = absurd (false≢true e)
+    by_phase Phase.Checking p a e = absurd (false≢true e)
+    by_phase Phase.Full p a e = absurd (false≢true e)
+    by_phase Phase.Recovering p a e = absurd (false≢true e)
+    by_phase Phase.Silent p a e = absurd (false≢true e)
+    by_phase Phase.Falling p a e = absurd (false≢true e)
+    by_phase Phase.Resetting p a e = p a
 
-    by-test : (b : Bool) → asks_to_start (asks_for step) ≡ b
+    by_test : (b : Bool) → asks_to_start (asks_for step) ≡ b
         → is_stopping (cond b (starting (cause_in (phase_of step))) (way_in (phase_of step) (timer_of step))) ≡ true → step ≡ ResetStopped
-    by-test true a e = absurd (false≢true e)
-    by-test false a e = by-phase (phase_of step) (in_phase step) a e
+    by_test true a e = absurd (false≢true e)
+    by_test false a e = by_phase (phase_of step) (in_phase step) a e
 
 module _ (n : Network) (g : InRange n) (f : Distinct (controllers_of n)) (h : OwnHistory) (r : Ran n h) where
   abbrev s : State
   s = state_of n h
 
-  pub in-step-15 : after_stall n h ≡ true → (c : ℕ) → member c (controllers_of n) ≡ true → asked_to_start c (since (setback n) h) ≡ false
+  pub in_step_15 : after_stall n h ≡ true → (c : ℕ) → member c (controllers_of n) ≡ true → asked_to_start c (since (setback n) h) ≡ false
       → s.step ≡ ResetStopped
-  in-step-15 x c m a = stopping_step s.step (ap is_stopping
+  in_step_15 x c m a = stopping_step s.step (ap is_stopping
       (unasked_stopping n (way_of s.step) s.asked s.answers s.count (owed n h) (wanted_at_tick h) (since (setback n) h)
       (rw x at (stands_at n g f h r)) c m a))
 
   -- where that step is done, each controller has stopped since the stall
-  pub done-stopped : s.step ≡ ResetStopped → finished n s ≡ true → Stopped n h
-  done-stopped e done c m =
-      let okay = done-answered n s ResetStopped e done in
+  pub done_stopped : s.step ≡ ResetStopped → finished n s ≡ true → Stopped n h
+  done_stopped e done c m =
+      let okay = done_answered n s ResetStopped e done in
       let used = slot_in_use n s c g (state_kept n g h r) m in
       stopping_at n g h r e c m (every_at is_okay s.answers (seat_of n c) n.count (heard LastAnswer.Pending) okay used.0 used.1)

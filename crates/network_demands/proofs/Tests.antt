@@ -39,61 +39,61 @@ checked_by ensure delay t step f = ap (λ (step : Step). reached_by (timer_of st
 
 module _ (n : Network) (s : State) where
   -- a step that asks the controllers for a mode is done just where it has asked and the last answer of each is ok
-  pub finished-just : (mode : ControllerMode) → asks_for s.step ≡ Ask.Controllers mode
+  pub finished_just : (mode : ControllerMode) → asks_for s.step ≡ Ask.Controllers mode
       → finished n s ≡ cond s.asked (every is_okay (heard_of n s)) false
-  finished-just mode f = ap (λ (ask : Ask). cond s.asked (done_by ask (heard_of n s) (report_heard s)) false) f
+  finished_just mode f = ap (λ (ask : Ask). cond s.asked (done_by ask (heard_of n s) (report_heard s)) false) f
 
   -- a report is heard just where it has come
-  heard-just : report_heard s ≡ s.reported
-  heard-just = by-test s.reported refl
+  heard_just : report_heard s ≡ s.reported
+  heard_just = by_test s.reported refl
     where
-      by-test : (b : Bool) → s.reported ≡ b → report_heard s ≡ b
-      by-test true q = rw (q) refl
-      by-test false q = rw (q) refl
+      by_test : (b : Bool) → s.reported ≡ b → report_heard s ≡ b
+      by_test true q = rw (q) refl
+      by_test false q = rw (q) refl
 
   -- a step that asks the transceiver for something is done just where it has asked and the report has come
-  pub finished-reported : is_errand (asks_for s.step) ≡ true → finished n s ≡ cond s.asked s.reported false
-  finished-reported f = ap (λ (done : Bool). cond s.asked done false) (by-ask (asks_for s.step) f)
+  pub finished_reported : is_errand (asks_for s.step) ≡ true → finished n s ≡ cond s.asked s.reported false
+  finished_reported f = ap (λ (done : Bool). cond s.asked done false) (by_ask (asks_for s.step) f)
     where
-      by-ask : (ask : Ask) → is_errand ask ≡ true → done_by ask (heard_of n s) (report_heard s) ≡ s.reported
-      by-ask Ask.Nothing f = absurd (false≢true f)
-      by-ask (Ask.Controllers mode) f = absurd (false≢true f)
-      by-ask (Ask.Transceiver mode) f = heard-just
-      by-ask Ask.ClearWake f = heard-just
-      by-ask Ask.CheckWake f = heard-just
+      by_ask : (ask : Ask) → is_errand ask ≡ true → done_by ask (heard_of n s) (report_heard s) ≡ s.reported
+      by_ask Ask.Nothing f = absurd (false≢true f)
+      by_ask (Ask.Controllers mode) f = absurd (false≢true f)
+      by_ask (Ask.Transceiver mode) f = heard_just
+      by_ask Ask.ClearWake f = heard_just
+      by_ask Ask.CheckWake f = heard_just
 
   -- a step is done only where it has asked
-  pub finished-asked : finished n s ≡ true → s.asked ≡ true
-  finished-asked e = by-test s.asked e
+  pub finished_asked : finished n s ≡ true → s.asked ≡ true
+  finished_asked e = by_test s.asked e
     where
-      by-test : (b : Bool) → cond b (done_by (asks_for s.step) (heard_of n s) (report_heard s)) false ≡ true → b ≡ true
-      by-test true e = refl
-      by-test false e = absurd (false≢true e)
+      by_test : (b : Bool) → cond b (done_by (asks_for s.step) (heard_of n s) (report_heard s)) false ≡ true → b ≡ true
+      by_test true e = refl
+      by_test false e = absurd (false≢true e)
 
   -- the time of step 7 is reached just where the delay of the count has passed with this tick
-  pub reaches-just : (t : ℕ) → s.step ≡ Waiting t → reaches n s ≡ leb (delay_of n s.count) (t + 1)
-  reaches-just t f = ap (λ (step : Step). reached_by (timer_of step) n.ensure (delay_of n s.count)) f
+  pub reaches_just : (t : ℕ) → s.step ≡ Waiting t → reaches n s ≡ leb (delay_of n s.count) (t + 1)
+  reaches_just t f = ap (λ (step : Step). reached_by (timer_of step) n.ensure (delay_of n s.count)) f
 
   -- a report that is heard has come
-  heard-reported : report_heard s ≡ true → s.reported ≡ true
-  heard-reported e = by-test s.reported refl
+  heard_reported : report_heard s ≡ true → s.reported ≡ true
+  heard_reported e = by_test s.reported refl
     where
-      by-test : (b : Bool) → s.reported ≡ b → b ≡ true
-      by-test true q = refl
-      by-test false q = absurd (false≢true (rw q at e))
+      by_test : (b : Bool) → s.reported ≡ b → b ≡ true
+      by_test true q = refl
+      by_test false q = absurd (false≢true (rw q at e))
 
   -- a step is done only where what it asks for was answered or reported
-  pub done-answered : (step : Step) → s.step ≡ step → finished n s ≡ true → done_by (asks_for step) (heard_of n s) s.reported ≡ true
-  done-answered step f e =
-      by-ask (asks_for step) (ap (λ (x : Step). done_by (asks_for x) (heard_of n s) (report_heard s)) (sym f) ∙ once_asked s.asked _ e)
+  pub done_answered : (step : Step) → s.step ≡ step → finished n s ≡ true → done_by (asks_for step) (heard_of n s) s.reported ≡ true
+  done_answered step f e =
+      by_ask (asks_for step) (ap (λ (x : Step). done_by (asks_for x) (heard_of n s) (report_heard s)) (sym f) ∙ once_asked s.asked _ e)
     where
-      by-ask : (ask : Ask) → done_by ask (heard_of n s) (report_heard s) ≡ true → done_by ask (heard_of n s) s.reported ≡ true
-      by-ask Ask.Nothing e = e
-      by-ask (Ask.Controllers mode) e = e
-      by-ask (Ask.Transceiver mode) e = heard-reported e
-      by-ask Ask.ClearWake e = heard-reported e
-      by-ask Ask.CheckWake e = heard-reported e
+      by_ask : (ask : Ask) → done_by ask (heard_of n s) (report_heard s) ≡ true → done_by ask (heard_of n s) s.reported ≡ true
+      by_ask Ask.Nothing e = e
+      by_ask (Ask.Controllers mode) e = e
+      by_ask (Ask.Transceiver mode) e = heard_reported e
+      by_ask Ask.ClearWake e = heard_reported e
+      by_ask Ask.CheckWake e = heard_reported e
 
   -- the time of step 4 is reached just where the ensure time has passed with this tick
-  pub reaches-checked : (t : ℕ) → s.step ≡ Checking t → reaches n s ≡ leb n.ensure (t + 1)
-  reaches-checked t f = checked_by n.ensure _ t s.step f
+  pub reaches_checked : (t : ℕ) → s.step ≡ Checking t → reaches n s ≡ leb n.ensure (t + 1)
+  reaches_checked t f = checked_by n.ensure _ t s.step f

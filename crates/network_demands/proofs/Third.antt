@@ -24,7 +24,7 @@ use Rattle.network_demands.proofs.Counted.{counted, delay_follows}
 use Rattle.network_demands.proofs.Told.{delay_range}
 use Rattle.network_demands.proofs.Toward.{ticks_left}
 use Rattle.network_demands.proofs.Nearer.{left}
-use Rattle.network_demands.proofs.Countdown.{Unasked, told-down, tells-down}
+use Rattle.network_demands.proofs.Countdown.{Unasked, told_down, tells_down}
 
 -- a recovery or a reset has just begun: the step has not asked, and silent was told
 record Begins (s : State) (step : Step) : Type 0 where
@@ -49,9 +49,9 @@ module _ (n : Network) (g : InRange n) (f : Distinct (controllers_of n)) (b : Se
   abbrev struck : State
   struck = state_of n (b ∷ h)
 
-  recovery-begins : Ran n (b ∷ h) → Begins struck Restarting
+  recovery_begins : Ran n (b ∷ h) → Begins struck Restarting
   unfolding Ran state_of after_hit made_anew
-  recovery-begins r =
+  recovery_begins r =
       let both = and_both (fell b) _ u in
       by_part n (state_of n h) (λ e t. fell e ≡ true → is_up (state_of n h).step ≡ true → Begins t Restarting) (record {
         plain = λ sight number mode reported p z _. absurd (false≢true (sym p.bus_off_lem ∙ z));
@@ -64,38 +64,38 @@ module _ (n : Network) (g : InRange n) (f : Distinct (controllers_of n)) (b : Se
       }) b r.0 both.0 (sym (up_means n h r.1) ∙ both.1)
 
   -- the delay and one tick are left, and one tick is needed to ask
-  recovery-left : Ran n (b ∷ h) → suc (left n struck) ≡ delay_at n (b ∷ h) + 2
-  recovery-left r =
-      let step = (recovery-begins r).at in
+  recovery_left : Ran n (b ∷ h) → suc (left n struck) ≡ delay_at n (b ∷ h) + 2
+  recovery_left r =
+      let step = (recovery_begins r).at in
       let delay = delay_follows n g (b ∷ h) struck (counted n g (b ∷ h) r) in
       let some = (delay_range n g struck.count).0 in
       let same : left n struck ≡ suc (suc (delay_of n struck.count - 1)) = ap (ticks_left (own_outfit n) (delay_of n struck.count)) step in
       omega (arith, same, delay, some)
 
   recovers : Ran n (b ∷ h) → Unasked struck true 1
-  recovers r = begins_unasked struck Restarting (recovery-begins r) refl refl refl
+  recovers r = begins_unasked struck Restarting (recovery_begins r) refl refl refl
 
   pub said_from : (s : OwnHistory) → Ran n (s ++ (b ∷ h)) → GoodTicks 1 s (b ∷ h)
       → told n (s ++ (b ∷ h)) ≡ cond (leb (delay_at n (b ∷ h) + 2) (tally ticked s)) 2 1
   said_from s r i =
       let early = ran_earlier n s (b ∷ h) r in
-      told-down n g f (b ∷ h) true 1 (recovers early) (λ _ _ _ _ _. omega arith) s r i
-      ∙ rw (recovery-left early, (recovery-begins early).told) refl
+      told_down n g f (b ∷ h) true 1 (recovers early) (λ _ _ _ _ _. omega arith) s r i
+      ∙ rw (recovery_left early, (recovery_begins early).told) refl
 
   pub on_just_that_tick : (t : Seen) (s : OwnHistory) → Ran n (t ∷ (s ++ (b ∷ h))) → GoodTicks 1 (t ∷ s) (b ∷ h) → ticked t ≡ true
       → hands 6 n.handle 2 t ≡ eqb (delay_at n (b ∷ h) + 2) (tally ticked (t ∷ s))
   on_just_that_tick t s r i tick =
       let early = ran_earlier n (t ∷ s) (b ∷ h) r in
-      tells-down n g f (b ∷ h) true 1 (recovers early) (λ _ _ _ _ _. omega arith) t s r i tick ∙ rw (recovery-left early) refl
+      tells_down n g f (b ∷ h) true 1 (recovers early) (λ _ _ _ _ _. omega arith) t s r i tick ∙ rw (recovery_left early) refl
 
 -- ---- after a stall
 module _ (n : Network) (g : InRange n) (f : Distinct (controllers_of n)) (b : Seen) (h : OwnHistory) (x : stalled b ≡ true) where
   abbrev stuck : State
   stuck = state_of n (b ∷ h)
 
-  reset-begins : Ran n (b ∷ h) → Begins stuck ResetStopped
+  reset_begins : Ran n (b ∷ h) → Begins stuck ResetStopped
   unfolding Ran state_of after_hit made_anew
-  reset-begins r = by_part n (state_of n h) (λ e t. stalled e ≡ true → Begins t ResetStopped) (record {
+  reset_begins r = by_part n (state_of n h) (λ e t. stalled e ≡ true → Begins t ResetStopped) (record {
     plain = λ sight number mode reported p x. absurd (false≢true (sym p.stall ∙ x));
     hears = λ c mode ok m l t x. absurd (false≢true x);
     recovers = λ u x. absurd (false≢true x);
@@ -105,20 +105,20 @@ module _ (n : Network) (g : InRange n) (f : Distinct (controllers_of n)) (b : Se
     ticks = λ x. absurd (false≢true x);
   }) b r.0 x
 
-  reset-left : Ran n (b ∷ h) → suc (left n stuck) ≡ 3
-  reset-left r = ap (λ (step : Step). suc (ticks_left (own_outfit n) (delay_of n stuck.count) step)) (reset-begins r).at
+  reset_left : Ran n (b ∷ h) → suc (left n stuck) ≡ 3
+  reset_left r = ap (λ (step : Step). suc (ticks_left (own_outfit n) (delay_of n stuck.count) step)) (reset_begins r).at
 
   resets : Ran n (b ∷ h) → Unasked stuck true 1
-  resets r = begins_unasked stuck ResetStopped (reset-begins r) refl refl refl
+  resets r = begins_unasked stuck ResetStopped (reset_begins r) refl refl refl
 
   pub said_from_the_third : (s : OwnHistory) → Ran n (s ++ (b ∷ h)) → GoodTicks 1 s (b ∷ h)
       → told n (s ++ (b ∷ h)) ≡ cond (leb 3 (tally ticked s)) 2 1
   said_from_the_third s r i =
       let early = ran_earlier n s (b ∷ h) r in
-      told-down n g f (b ∷ h) true 1 (resets early) (λ _ _ _ _ _. omega arith) s r i ∙ rw (reset-left early, (reset-begins early).told) refl
+      told_down n g f (b ∷ h) true 1 (resets early) (λ _ _ _ _ _. omega arith) s r i ∙ rw (reset_left early, (reset_begins early).told) refl
 
   pub on_the_third_tick : (t : Seen) (s : OwnHistory) → Ran n (t ∷ (s ++ (b ∷ h))) → GoodTicks 1 (t ∷ s) (b ∷ h) → ticked t ≡ true
       → hands 6 n.handle 2 t ≡ eqb 3 (tally ticked (t ∷ s))
   on_the_third_tick t s r i tick =
       let early = ran_earlier n (t ∷ s) (b ∷ h) r in
-      tells-down n g f (b ∷ h) true 1 (resets early) (λ _ _ _ _ _. omega arith) t s r i tick ∙ rw (reset-left early) refl
+      tells_down n g f (b ∷ h) true 1 (resets early) (λ _ _ _ _ _. omega arith) t s r i tick ∙ rw (reset_left early) refl

@@ -16,7 +16,7 @@ use Rattle.settings.proofs.Good.{controllers_counted, some_controller}
 use Rattle.steps.specs.declared.Move.{Move}
 use Rattle.steps.specs.declared.Move.TheVariants.{Stay, AskAgain, Count, EnterFull, EnterSilent, Pass, Wait, GoDown, EnterNoCommunication, Enter}
 use Rattle.steps.specs.Steps.{asks_for, is_full_step}
-use Rattle.steps.specs.After.{first_down, step_after}
+use Rattle.steps.specs.After.{first_down, step_after_lem}
 use Rattle.handing.specs.Handing.{requests, down_notices, going_down, move_records, recovery, reset}
 use Rattle.handing.proofs.Laws.{length_move}
 use Rattle.network.specs.declared.State.{State}
@@ -28,19 +28,19 @@ use Rattle.network_demands.specs.Words.{fell_up}
 use Rattle.network_demands.specs.Own.{decides, tick_after, tick_hands, state_of, Ran}
 use Rattle.network_demands.specs.Promises.{Shutdown, highest, Ticks}
 use Rattle.network_demands.proofs.Views.{seen, by_part}
-use Rattle.network_demands.proofs.Handed.{eqb_same, requests_none, is_go_down, move-goes-online, move-goes-offline, move-shuts, move-clears}
-use Rattle.network_demands.proofs.Handed.{move-says-full, move-notes-full, move-notes-silent, move-notes-no-bus-off, move-prefails-not}
-use Rattle.network_demands.proofs.Handed.{move-silent-alone, move-says-no, move-hands-none}
+use Rattle.network_demands.proofs.Handed.{eqb_same, requests_none, is_go_down, move_goes_online, move_goes_offline, move_shuts, move_clears}
+use Rattle.network_demands.proofs.Handed.{move_says_full, move_notes_full, move_notes_silent, move_notes_no_bus_off, move_prefails_not}
+use Rattle.network_demands.proofs.Handed.{move_silent_alone, move_says_no, move_hands_none}
 use Rattle.network_demands.proofs.Up.{up_means}
 use Rattle.network_demands.proofs.Follows.{state_kept, Follows, follows}
 use Rattle.network_demands.proofs.Told.{full_mode_number, told_in_full}
 use Rattle.network_demands.proofs.Standing.{StandsIn, stands}
 use Rattle.network_demands.proofs.Counted.{silence_settled}
-use Rattle.network_demands.proofs.Turns.{full-stays, full-begins, silence-wanted, ends, goes_down_lem, begins, sinks, full-rests}
-use Rattle.network_demands.proofs.Checked.{sinceFull, since-full-tick, checked-tick, checked}
-use Rattle.network_demands.proofs.Readied.{done-prepared}
-use Rattle.network_demands.proofs.Stops.{in-step-15, done-stopped}
-use Rattle.network_demands.proofs.Waits.{wait-begins}
+use Rattle.network_demands.proofs.Turns.{full_stays, full_begins, silence_wanted, ends, goes_down_lem, begins, sinks, full_rests}
+use Rattle.network_demands.proofs.Checked.{since_full, since_full_tick, checked_tick, checked}
+use Rattle.network_demands.proofs.Readied.{done_prepared}
+use Rattle.network_demands.proofs.Stops.{in_step_15, done_stopped}
+use Rattle.network_demands.proofs.Waits.{wait_begins_lem}
 
 -- ---- what is no tick
 -- it hands out nothing but what a bus_off_lem while up or a stall does: a test that none of these three passes is passed by no record of it
@@ -118,8 +118,8 @@ module _ (n : Network) (g : InRange n) (f : Distinct (controllers_of n)) (h : Ow
   follow : Follows n s h
   follow = follows n h r
 
-  was-full : eqb 2 (told n h) ≡ is_full_step s.step
-  was-full = told_in_full n g h r
+  was_full : eqb 2 (told n h) ≡ is_full_step s.step
+  was_full = told_in_full n g h r
 
   -- the notices of a shutdown, by the mode last told
   shutdown : (move : Move) → is_go_down move ≡ true → Shutdown n (seen a_tick 0 (move_records n s.step s.told move)) h
@@ -149,13 +149,13 @@ module _ (n : Network) (g : InRange n) (f : Distinct (controllers_of n)) (h : Ow
   shutdown (Enter next) f = absurd (false≢true f)
 
   -- a tick hands out at most two records more than the network has controllers
-  few-records : length (tick_hands n s) ≤ n.count + 2
-  few-records =
+  few_records : length (tick_hands n s) ≤ n.count + 2
+  few_records =
       omega (arith, controllers_counted n g, some_controller n g, length_move n s.step s.told m)
 
   -- each has an argument of its kind
-  known-records : any (λ (x : Record). ltb (highest x.kind) x.argument) (tick_hands n s) ≡ false
-  known-records = move-hands-none n (λ (x : Record). ltb (highest x.kind) x.argument) (λ id. controllers) (λ id. transceivers) (λ id. pdus)
+  known_records : any (λ (x : Record). ltb (highest x.kind) x.argument) (tick_hands n s) ≡ false
+  known_records = move_hands_none n (λ (x : Record). ltb (highest x.kind) x.argument) (λ id. controllers) (λ id. transceivers) (λ id. pdus)
       (λ id. refl) (λ id. refl) modes notices refl s.step s.told m
     where
       controllers : (mode : ControllerMode) → ltb 2 (controller_number mode) ≡ false
@@ -183,34 +183,34 @@ module _ (n : Network) (g : InRange n) (f : Distinct (controllers_of n)) (h : Ow
       notices Notice.BusOff = refl
 
   -- the record after the tick tells full in just the full steps
-  module _ (now : Ran n (e ∷ h)) (now_full : eqb 2 (told n (e ∷ h)) ≡ is_full_step (step_after m s.step n.partial)) where
-    tick-ticks : Ticks n e h
-    tick-ticks = record {
+  module _ (now : Ran n (e ∷ h)) (now_full : eqb 2 (told n (e ∷ h)) ≡ is_full_step (step_after_lem m s.step n.partial)) where
+    tick_ticks : Ticks n e h
+    tick_ticks = record {
       stays_full = λ _ t.
-          now_full ∙ full-stays n s standing.suited kept (sym was-full ∙ eq-eqb 2 (told n h) (sym t)) ∙ rw follow.wanted refl;
+          now_full ∙ full_stays n s standing.suited kept (sym was_full ∙ eq-eqb 2 (told n h) (sym t)) ∙ rw follow.wanted refl;
       says_full = λ f.
-          let x = full-begins n s standing.suited kept (sym (move-says-full n s.step s.told m) ∙ f) in
-          record { tick = refl; news = was-full ∙ x.0; called = sym follow.wanted ∙ x.1 };
-      says_no = λ f. standing.rested ∙ ends n s standing.suited kept (sym (move-says-no n s.step s.told m) ∙ f);
-      shuts = move-shuts n s.step s.told m ∙ goes_down_lem n s standing.suited kept ∙ rw (follow.wanted, ← standing.on) refl;
-      shuts_first = λ f. shutdown m (sym (move-shuts n s.step s.told m) ∙ f);
-      passes = move-clears n s.step s.told m ∙ (checked-tick n s (sinceFull n h) g kept standing.suited (checked n g h r)).1
-          ∙ rw (now_full, since-full-tick n h e refl, move-says-full n s.step s.told m) refl;
-      online = λ c own. move-goes-online n c own s.step s.told m ∙ sym (move-says-full n s.step s.told m);
-      notes_full = move-notes-full n s.step s.told m ∙ sym (move-says-full n s.step s.told m);
-      notes_silent = move-notes-silent n s.step s.told m ∙ sym (move-silent-alone n s.step s.told m);
+          let x = full_begins n s standing.suited kept (sym (move_says_full n s.step s.told m) ∙ f) in
+          record { tick = refl; news = was_full ∙ x.0; called = sym follow.wanted ∙ x.1 };
+      says_no = λ f. standing.rested ∙ ends n s standing.suited kept (sym (move_says_no n s.step s.told m) ∙ f);
+      shuts = move_shuts n s.step s.told m ∙ goes_down_lem n s standing.suited kept ∙ rw (follow.wanted, ← standing.on) refl;
+      shuts_first = λ f. shutdown m (sym (move_shuts n s.step s.told m) ∙ f);
+      passes = move_clears n s.step s.told m ∙ (checked_tick n s (since_full n h) g kept standing.suited (checked n g h r)).1
+          ∙ rw (now_full, since_full_tick n h e refl, move_says_full n s.step s.told m) refl;
+      online = λ c own. move_goes_online n c own s.step s.told m ∙ sym (move_says_full n s.step s.told m);
+      notes_full = move_notes_full n s.step s.told m ∙ sym (move_says_full n s.step s.told m);
+      notes_silent = move_notes_silent n s.step s.told m ∙ sym (move_silent_alone n s.step s.told m);
       enters_silent = λ z.
-          let silent = sym (move-notes-silent n s.step s.told m) ∙ z in
+          let silent = sym (move_notes_silent n s.step s.told m) ∙ z in
           record {
-            called = sym follow.wanted ∙ silence-wanted n s standing.suited kept silent;
+            called = sym follow.wanted ∙ silence_wanted n s standing.suited kept silent;
             settled = silence_settled n g h r silent;
           };
-      offline = λ c own. move-goes-offline n c own s.step s.told m
-          ∙ rw (move-notes-silent n s.step s.told m, ← wait-begins n g h r f now) refl;
-      notes_bus_off = move-notes-no-bus-off n s.step s.told m;
-      prefails = move-prefails-not n s.step s.told m;
+      offline = λ c own. move_goes_offline n c own s.step s.told m
+          ∙ rw (move_notes_silent n s.step s.told m, ← wait_begins_lem n g h r f now) refl;
+      notes_bus_off = move_notes_no_bus_off n s.step s.told m;
+      prefails = move_prefails_not n s.step s.told m;
       stays_down = λ f. sinks n s standing.suited kept (sym standing.rested ∙ f);
-      full_asks_nothing = λ f. full-rests n s standing.suited kept (sym now_full ∙ eq-eqb 2 (told n (e ∷ h)) (sym f));
+      full_asks_nothing = λ f. full_rests n s standing.suited kept (sym now_full ∙ eq-eqb 2 (told n (e ∷ h)) (sym f));
       starts = λ c z.
           let x = begins n s standing.suited kept c z in
           record {
@@ -219,13 +219,13 @@ module _ (n : Network) (g : InRange n) (f : Distinct (controllers_of n)) (h : Ow
             called = ap (eqb 0) (sym follow.wanted) ∙ x.called;
             prepared = λ a.
                 let first = x.first (sym (standing.begun c x.own) ∙ a) in
-                done-prepared n g h r first.0 first.1;
+                done_prepared n g h r first.0 first.1;
             stopped = λ stall a.
-                let step = in-step-15 n g f h r stall c x.own a in
-                done-stopped n g f h r step (x.again step);
+                let step = in_step_15 n g f h r stall c x.own a in
+                done_stopped n g f h r step (x.again step);
           };
-      known = known-records;
-      few = λ _. few-records;
+      known = known_records;
+      few = λ _. few_records;
       none = λ t f _. absurd (true≢false t);
     }
 
@@ -241,5 +241,5 @@ ticks n g f e h r =
       restarts = λ u a _ _ _. quiet_ticks n a_bus_off 0 h refl (stands ∙ u);
       not_taken = λ u a _ _ _. quiet_ticks n a_bus_off 0x22 h refl (stands ∙ u);
       resets = λ u _ _ _. reset_ticks n h;
-      ticks = λ k t now. tick-ticks n g f h r.1 now (ap (eqb 2) (sym t) ∙ full_mode_number (tick_after n (state_of n h)).told ∙ k.told);
+      ticks = λ k t now. tick_ticks n g f h r.1 now (ap (eqb 2) (sym t) ∙ full_mode_number (tick_after n (state_of n h)).told ∙ k.told);
     }) e r.0 (state_kept n g (e ∷ h) r) (follows n (e ∷ h) r).told r

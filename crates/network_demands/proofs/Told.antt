@@ -20,7 +20,7 @@ use Rattle.steps.specs.declared.Move.{Move}
 use Rattle.steps.specs.declared.Move.TheVariants.{AskAgain, Count, EnterFull, EnterSilent, Wait, GoDown, EnterNoCommunication}
 use Rattle.steps.specs.Steps.{phase_of, asks_for, timer_of, is_up, is_full_step, asks_to_start}
 use Rattle.steps.specs.Decision.{risen, decision}
-use Rattle.steps.specs.After.{step_after}
+use Rattle.steps.specs.After.{step_after_lem}
 use Rattle.handing.specs.Handing.{requests, move_records, recovery, reset}
 use Rattle.network.specs.declared.Heard.{Heard}
 use Rattle.network.specs.declared.State.{State}
@@ -35,19 +35,19 @@ use Rattle.network_demands.specs.Words.{is, Seen, OwnHistory, since, tally, tick
 use Rattle.network_demands.specs.Words.{after_stall, asked_to_start, runs, all_run, first_running, Told, ToldNo, Answered}
 use Rattle.network_demands.specs.Own.{finished, reaches, decides, tick_after, tick_hands, recovered, played, state_of, Fits, Ran}
 use Rattle.network_demands.proofs.Views.{seen, by_part}
-use Rattle.network_demands.proofs.Tests.{finished-just, finished-asked, reaches-just}
-use Rattle.network_demands.proofs.Handed.{is_go_down, move-shuts}
-use Rattle.network_demands.proofs.Given.{start-asks}
+use Rattle.network_demands.proofs.Tests.{finished_just, finished_asked, reaches_just}
+use Rattle.network_demands.proofs.Handed.{is_go_down, move_shuts}
+use Rattle.network_demands.proofs.Given.{start_asks}
 use Rattle.network_demands.proofs.Slots.{every_member, every_same, said_okay, no_answer_yet, all_okay}
 use Rattle.network_demands.proofs.Up.{up_means, says}
 use Rattle.network_demands.proofs.Follows.{state_kept, wanted_follows, told_follows}
-use Rattle.network_demands.proofs.Counted.{Counted, counted, counted-fall, delay_follows}
-use Rattle.network_demands.proofs.Running.{since_by, owed_by, stall_by, asked_first, first-stays, first-tick, none-run}
+use Rattle.network_demands.proofs.Counted.{Counted, counted, counted_fall, delay_follows}
+use Rattle.network_demands.proofs.Running.{since_by, owed_by, stall_by, asked_first, first_stays, first_tick, none_run}
 use Rattle.network_demands.proofs.Way.{Cause, coming_up, bus_off, stall, Way, away, stopping, starting, delayed, there, silenced}
 use Rattle.network_demands.proofs.Way.{cause_in, way_of, is_there, down_away, down_comes_up, way_away, delay_by, is_stall_cause, Late}
 use Rattle.network_demands.proofs.Way.{soonest, later, first_down_away, full_there, to_start, Starts, Running, Away, Stands, StandsAt}
 use Rattle.network_demands.proofs.Way.{stands_same}
-use Rattle.network_demands.proofs.Way.{heard-stands, anew, nothing_since}
+use Rattle.network_demands.proofs.Way.{heard_stands, anew, nothing_since}
 
 -- ---- ticks
 -- a tick count below a delay rises by one
@@ -64,10 +64,10 @@ module _ (n : Network) (g : InRange n) (told : Mode) (asked : Bool) (answers : L
   ticking records = seen a_tick 0 records
 
   -- away, a tick that asks no controller to start leaves the network so
-  still-away : (records : List Record) → ((c : ℕ) → any (is 1 c 1) records ≡ false) → Away n q d → Away n (ticking records ∷ q) d
+  still_away : (records : List Record) → ((c : ℕ) → any (is 1 c 1) records ≡ false) → Away n q d → Away n (ticking records ∷ q) d
   unfolding any
-  still-away records f i = record {
-    none = first-tick n (ticking records) q refl i.none ∙ rw (none-run n g q i.unasked) refl;
+  still_away records f i = record {
+    none = first_tick n (ticking records) q refl i.none ∙ rw (none_run n g q i.unasked) refl;
     delay = i.delay;
     unasked = λ c m. rw (f c) (i.unasked c m);
   }
@@ -76,24 +76,24 @@ module _ (n : Network) (g : InRange n) (told : Mode) (asked : Bool) (answers : L
   all_asked : (ask : Ask) → asks_to_start ask ≡ true → (c : ℕ) → member c (controllers_of n) ≡ true
       → asked_to_start c (ticking (requests ask n) ∷ q) ≡ true
   unfolding any
-  all_asked ask e c m = rw (start-asks n c ask, e, m) refl
+  all_asked ask e c m = rw (start_asks n c ask, e, m) refl
 
   -- asked with this tick
-  sent-now : (records : List Record) → true ≡ ltb 0 (tally ticked (ticking records ∷ q))
+  sent_now : (records : List Record) → true ≡ ltb 0 (tally ticked (ticking records ∷ q))
   unfolding tally
-  sent-now records = sym (lt-ltb 0 (suc (tally ticked q)) (omega arith))
+  sent_now records = sym (lt-ltb 0 (suc (tally ticked q)) (omega arith))
 
   -- a tick that asks all controllers to start, where none was asked before
-  starts-now : (cause : Cause) (ask : Ask) → asks_to_start ask ≡ true → d ≡ delay_by n count cause → x ≡ is_stall_cause cause
+  starts_now : (cause : Cause) (ask : Ask) → asks_to_start ask ≡ true → d ≡ delay_by n count cause → x ≡ is_stall_cause cause
       → Late cause (tally ticked (ticking (requests ask n) ∷ q)) → Away n q d
       → Starts n cause true blank_answers count (ticking (requests ask n) ∷ q) d x
   unfolding runs
-  starts-now cause ask a delay why late i = record {
-    none = first-tick n (ticking (requests ask n)) q refl i.none ∙ rw (none-run n g q i.unasked) refl;
+  starts_now cause ask a delay why late i = record {
+    none = first_tick n (ticking (requests ask n)) q refl i.none ∙ rw (none_run n g q i.unasked) refl;
     delay = delay;
     why = why;
     late = late;
-    sent = sent-now (requests ask n);
+    sent = sent_now (requests ask n);
     requested = all_asked ask a;
     answered = λ c m. asked_first c q (i.unasked c m) ∙ sym (no_answer_yet n c);
   }
@@ -104,67 +104,67 @@ module _ (n : Network) (g : InRange n) (told : Mode) (asked : Bool) (answers : L
   entered next w u i e = split (λ (way : Way). Stands n way true blank_answers count (ticking (requests (asks_for next) n) ∷ q) d w x)
       (asks_to_start (asks_for next))
       (λ a. subst (λ (cause : Cause). Starts n cause true blank_answers count (ticking (requests (asks_for next) n) ∷ q) d x)
-      (sym (down_comes_up (phase_of next) u)) (starts-now coming_up (asks_for next) a i.delay e tt i))
+      (sym (down_comes_up (phase_of next) u)) (starts_now coming_up (asks_for next) a i.delay e tt i))
       (λ a. subst (λ (way : Way). Stands n way true blank_answers count (ticking (requests (asks_for next) n) ∷ q) d w x)
       (sym (down_away (phase_of next) (timer_of next) u))
-      (still-away (requests (asks_for next) n) (λ c. start-asks n c (asks_for next) ∙ rw a refl) i, e))
+      (still_away (requests (asks_for next) n) (λ c. start_asks n c (asks_for next) ∙ rw a refl) i, e))
 
   -- what is late stays so
-  still-late : (cause : Cause) (ticks : ℕ) → Late cause ticks → Late cause (suc ticks)
-  still-late coming_up ticks l = tt
-  still-late bus_off ticks l = tt
-  still-late stall ticks l = omega (arith, l)
+  still_late : (cause : Cause) (ticks : ℕ) → Late cause ticks → Late cause (suc ticks)
+  still_late coming_up ticks l = tt
+  still_late bus_off ticks l = tt
+  still_late stall ticks l = omega (arith, l)
 
   -- starting, all are asked again where not all run
-  asked-again : (cause : Cause) → all_run n q ≡ false → Starts n cause asked answers count q d x
+  asked_again : (cause : Cause) → all_run n q ≡ false → Starts n cause asked answers count q d x
       → Starts n cause true answers count (ticking (requests (Ask.Controllers ControllerMode.Started) n) ∷ q) d x
   unfolding runs tally
-  asked-again cause f i = record {
-    none = first-tick n (ticking (requests (Ask.Controllers ControllerMode.Started) n)) q refl i.none ∙ rw f refl;
+  asked_again cause f i = record {
+    none = first_tick n (ticking (requests (Ask.Controllers ControllerMode.Started) n)) q refl i.none ∙ rw f refl;
     delay = i.delay;
     why = i.why;
-    late = still-late cause (tally ticked q) i.late;
-    sent = sent-now (requests (Ask.Controllers ControllerMode.Started) n);
+    late = still_late cause (tally ticked q) i.late;
+    sent = sent_now (requests (Ask.Controllers ControllerMode.Started) n);
     requested = all_asked (Ask.Controllers ControllerMode.Started) refl;
     answered = i.answered;
   }
 
   -- starting, where all run this tick is the first before which they do, and it is not the first of all
-  first-now : (cause : Cause) (records : List Record) → all_run n q ≡ true → Starts n cause asked answers count q d x
+  first_now : (cause : Cause) (records : List Record) → all_run n q ≡ true → Starts n cause asked answers count q d x
       → Running n (ticking records ∷ q) x × (first_running n (ticking records ∷ q) ≡ suc (tally ticked q))
   unfolding runs
-  first-now cause records f i =
-      let now : first_running n (ticking records ∷ q) ≡ suc (tally ticked q) = first-tick n (ticking records) q refl i.none ∙ rw f refl in
-      let some = by-test asked refl in (
+  first_now cause records f i =
+      let now : first_running n (ticking records ∷ q) ≡ suc (tally ticked q) = first_tick n (ticking records) q refl i.none ∙ rw f refl in
+      let some = by_test asked refl in (
         record {
           all = λ c m. every_member (λ (c : ℕ). runs c q) c (controllers_of n) f m;
-          soon = rw (now, i.why) (by-cause cause (tally ticked q) some i.late);
+          soon = rw (now, i.why) (by_cause cause (tally ticked q) some i.late);
         },
         now,
       )
     where
-      by-test : (b : Bool) → asked ≡ b → 0 < tally ticked q
-      by-test true e = ltb-true 0 (tally ticked q) (sym i.sent ∙ e)
-      by-test false e = absurd (true≢false (sym f ∙ none-run n g q (λ c m. i.requested c m ∙ e)))
+      by_test : (b : Bool) → asked ≡ b → 0 < tally ticked q
+      by_test true e = ltb-true 0 (tally ticked q) (sym i.sent ∙ e)
+      by_test false e = absurd (true≢false (sym f ∙ none_run n g q (λ c m. i.requested c m ∙ e)))
 
-      by-cause : (cause : Cause) (ticks : ℕ) → 0 < ticks → Late cause ticks → soonest (is_stall_cause cause) ≤ suc ticks
-      by-cause coming_up ticks some l = omega (arith, some)
-      by-cause bus_off ticks some l = omega (arith, some)
-      by-cause stall ticks some l = omega (arith, l)
+      by_cause : (cause : Cause) (ticks : ℕ) → 0 < ticks → Late cause ticks → soonest (is_stall_cause cause) ≤ suc ticks
+      by_cause coming_up ticks some l = omega (arith, some)
+      by_cause bus_off ticks some l = omega (arith, some)
+      by_cause stall ticks some l = omega (arith, l)
 
   -- once all run a tick changes nothing of that
-  first-still : (records : List Record) → Running n q x → first_running n (ticking records ∷ q) ≡ first_running n q
-  first-still records i = first-stays n (ticking records) q (omega (arith, later n q x i))
+  first_still : (records : List Record) → Running n q x → first_running n (ticking records ∷ q) ≡ first_running n q
+  first_still records i = first_stays n (ticking records) q (omega (arith, later n q x i))
 
-  still-running : (records : List Record) → Running n q x → Running n (ticking records ∷ q) x
+  still_running : (records : List Record) → Running n q x → Running n (ticking records ∷ q) x
   unfolding runs
-  still-running records i =
-      record { all = i.all; soon = rw (first-still records i) i.soon }
+  still_running records i =
+      record { all = i.all; soon = rw (first_still records i) i.soon }
 
   -- what a move makes of where the network stands
   abbrev After : Step → Mode → Move → Type 0
   After step wanted m =
-      Stands n (way_of (step_after m step n.partial)) (asks_after m asked) (cond (keeps_answers m) answers blank_answers) (count_after m count)
+      Stands n (way_of (step_after_lem m step n.partial)) (asks_after m asked) (cond (keeps_answers m) answers blank_answers) (count_after m count)
       (cond (is_go_down m) [] (ticking (move_records n step told m) ∷ q)) (cond (is_go_down m) 0 d) (mode_number wanted) (cond (is_go_down m) false x)
 
   gone : (step : Step) → After step Mode.No GoDown
@@ -175,12 +175,12 @@ module _ (n : Network) (g : InRange n) (told : Mode) (asked : Bool) (answers : L
   abbrev AfterAway : Step → Mode → Move → Type 0
   AfterAway step wanted m = is_up step ≡ false → asks_to_start (asks_for step) ≡ false → Away n q d × (x ≡ false) → After step wanted m
 
-  after-away : (done : Bool) → ByMove done AfterAway
+  after_away : (done : Bool) → ByMove done AfterAway
   unfolding move_records any
-  after-away done = record {
-    stays = λ step wanted u a i. rw (way_away step u a) (still-away [] (λ c. refl) i.0, i.1);
+  after_away done = record {
+    stays = λ step wanted u a i. rw (way_away step u a) (still_away [] (λ c. refl) i.0, i.1);
     asks_again = λ step wanted _ u a i.
-        rw (way_away step u a) (still-away (requests (asks_for step) n) (λ c. start-asks n c (asks_for step) ∙ rw a refl) i.0, i.1);
+        rw (way_away step u a) (still_away (requests (asks_for step) n) (λ c. start_asks n c (asks_for step) ∙ rw a refl) i.0, i.1);
     counts = λ step next wanted p p' f u a i. absurd (false≢true (sym u ∙ p.up));
     passes = λ step wanted p f u a i. absurd (false≢true (sym u ∙ p.up));
     fills = λ step wanted p u a i. absurd (false≢true (sym u ∙ p.up));
@@ -188,59 +188,59 @@ module _ (n : Network) (g : InRange n) (told : Mode) (asked : Bool) (answers : L
     silences = λ step wanted p u a i. absurd (false≢true (sym u ∙ p));
     waits = λ step wanted _ b f u a i. absurd (false≢true (sym a ∙ b));
     goes_down_lem = λ step o u a i. gone step;
-    ends = λ step wanted _ u a i. (still-away (move_records n step told EnterNoCommunication) (λ c. refl) i.0, i.1);
+    ends = λ step wanted _ u a i. (still_away (move_records n step told EnterNoCommunication) (λ c. refl) i.0, i.1);
     enters = λ step next wanted _ same _ u a i. entered next (mode_number wanted) (same ∙ u) i.0 i.1;
   }
 
   -- in step 3, in steps 15 and 16, in step 6 and in step 7, where the network does not go down
-  after-starting : (done : Bool) → done ≡ all_run n q → Starts n coming_up asked answers count q d x
+  after_starting : (done : Bool) → done ≡ all_run n q → Starts n coming_up asked answers count q d x
       → After ControllersStarted Mode.Full (cond done EnterFull AskAgain)
   unfolding move_records tally
-  after-starting done p i = split (After ControllersStarted Mode.Full) done
-      (λ e. let x = first-now coming_up (move_records n ControllersStarted told EnterFull) (sym p ∙ e) i in
+  after_starting done p i = split (After ControllersStarted Mode.Full) done
+      (λ e. let x = first_now coming_up (move_records n ControllersStarted told EnterFull) (sym p ∙ e) i in
       (x.0, omega (arith, x.1, i.delay), refl))
-      (λ e. asked-again coming_up (sym p ∙ e) i)
+      (λ e. asked_again coming_up (sym p ∙ e) i)
 
-  after-stopping : (wanted : Mode) (done : Bool) → (done ≡ true → asked ≡ true)
+  after_stopping : (wanted : Mode) (done : Bool) → (done ≡ true → asked ≡ true)
       → Away n q d × (x ≡ true) × (asked ≡ true → 0 < tally ticked q) → After ResetStopped wanted (cond done (Move.Enter ResetStarted) AskAgain)
   unfolding move_records tally
-  after-stopping wanted done p i = split (After ResetStopped wanted) done
-      (λ e. starts-now stall (asks_for ResetStarted) refl i.0.delay i.1 (omega (arith, i.2 (p e))) i.0)
-      (λ e. (still-away (requests (asks_for ResetStopped) n) (λ c. start-asks n c (asks_for ResetStopped)) i.0, i.1, λ _. omega arith))
+  after_stopping wanted done p i = split (After ResetStopped wanted) done
+      (λ e. starts_now stall (asks_for ResetStarted) refl i.0.delay i.1 (omega (arith, i.2 (p e))) i.0)
+      (λ e. (still_away (requests (asks_for ResetStopped) n) (λ c. start_asks n c (asks_for ResetStopped)) i.0, i.1, λ _. omega arith))
 
-  after-resetting : (wanted : Mode) (m : Move) (done : Bool) → done ≡ all_run n q → Starts n stall asked answers count q d x
+  after_resetting : (wanted : Mode) (m : Move) (done : Bool) → done ≡ all_run n q → Starts n stall asked answers count q d x
       → (Running n (ticking (move_records n ResetStarted told m) ∷ q) x
       → first_running n (ticking (move_records n ResetStarted told m) ∷ q) + d ≤ tally ticked (ticking (move_records n ResetStarted told m) ∷ q)
       → After ResetStarted wanted m) → After ResetStarted wanted (cond done m AskAgain)
   unfolding move_records tally
-  after-resetting wanted m done p i f = split (After ResetStarted wanted) done
-      (λ e. let x = first-now stall (move_records n ResetStarted told m) (sym p ∙ e) i in f x.0 (omega (arith, x.1, i.delay)))
-      (λ e. asked-again stall (sym p ∙ e) i)
+  after_resetting wanted m done p i f = split (After ResetStarted wanted) done
+      (λ e. let x = first_now stall (move_records n ResetStarted told m) (sym p ∙ e) i in f x.0 (omega (arith, x.1, i.delay)))
+      (λ e. asked_again stall (sym p ∙ e) i)
 
-  after-restarting : (wanted : Mode) (done : Bool) → done ≡ all_run n q → Starts n bus_off asked answers count q d x
+  after_restarting : (wanted : Mode) (done : Bool) → done ≡ all_run n q → Starts n bus_off asked answers count q d x
       → After Restarting wanted (cond done Wait AskAgain)
   unfolding move_records tally
-  after-restarting wanted done p i = split (After Restarting wanted) done
-      (λ e. let x = first-now bus_off (move_records n Restarting told Wait) (sym p ∙ e) i in
+  after_restarting wanted done p i = split (After Restarting wanted) done
+      (λ e. let x = first_now bus_off (move_records n Restarting told Wait) (sym p ∙ e) i in
       (x.0, i.delay, omega (arith, x.1), omega (arith, i.delay, (delay_range n g count).0)))
-      (λ e. asked-again bus_off (sym p ∙ e) i)
+      (λ e. asked_again bus_off (sym p ∙ e) i)
 
-  after-waiting : (t w : ℕ) (wanted : Mode) (m : Move) (reached : Bool) → reached ≡ leb (delay_of n count) (t + 1)
+  after_waiting : (t w : ℕ) (wanted : Mode) (m : Move) (reached : Bool) → reached ≡ leb (delay_of n count) (t + 1)
       → Stands n (delayed t) asked answers count q d w x → (first_running n q + d ≤ suc (tally ticked q) → After (Waiting t) wanted m)
       → After (Waiting t) wanted (cond reached m (Count (Waiting (risen t))))
   unfolding move_records tally
-  after-waiting t w wanted m reached r i f = split (After (Waiting t) wanted) reached
+  after_waiting t w wanted m reached r i f = split (After (Waiting t) wanted) reached
       (λ e. f (omega (arith, i.1, i.2, leb-true (delay_of n count) (t + 1) (sym r ∙ e))))
       (λ e.
       let l = leb-false (delay_of n count) (t + 1) (sym r ∙ e) in
       let one = risen_one t (omega (arith, (delay_range n g count).1)) in
-      (still-running [] i.0, i.1, omega (arith, i.2, first-still [] i.0), omega (arith, i.1)))
+      (still_running [] i.0, i.1, omega (arith, i.2, first_still [] i.0), omega (arith, i.1)))
 
   -- where the time has passed, full or silent is entered, or all stays
-  on-there : (records : List Record) → Running n q x → first_running n q + d ≤ suc (tally ticked q)
+  on_there : (records : List Record) → Running n q x → first_running n q + d ≤ suc (tally ticked q)
       → Running n (ticking records ∷ q) x × (first_running n (ticking records ∷ q) + d ≤ tally ticked (ticking records ∷ q))
   unfolding tally
-  on-there records i l = (still-running records i, rw (first-still records i) l)
+  on_there records i l = (still_running records i, rw (first_still records i) l)
 
   module _ (w : ℕ) (done refused reached : Bool) (outfit : Outfit) where
     -- each step by what it does; what is done and reached is as the record has it
@@ -249,44 +249,44 @@ module _ (n : Network) (g : InRange n) (told : Mode) (asked : Bool) (answers : L
         → Stands n (way_of step) asked answers count q d w x
         → After step wanted (decision step wanted done refused reached outfit)
     unfolding decision
-    after NoCommunication wanted s p r b i = by_move AfterAway done (after-away done) NoCommunication wanted refused reached outfit refl refl i
-    after TransceiverNormal wanted s p r b i = by_move AfterAway done (after-away done) TransceiverNormal wanted refused reached outfit refl refl i
-    after ControllersStopped wanted s p r b i = by_move AfterAway done (after-away done) ControllersStopped wanted refused reached outfit refl refl i
+    after NoCommunication wanted s p r b i = by_move AfterAway done (after_away done) NoCommunication wanted refused reached outfit refl refl i
+    after TransceiverNormal wanted s p r b i = by_move AfterAway done (after_away done) TransceiverNormal wanted refused reached outfit refl refl i
+    after ControllersStopped wanted s p r b i = by_move AfterAway done (after_away done) ControllersStopped wanted refused reached outfit refl refl i
     after ControllersStarted Mode.No s p r b i = gone ControllersStarted
     after ControllersStarted Mode.Silent s p r b i = absurd (false≢true (s refl))
-    after ControllersStarted Mode.Full s p r b i = after-starting done (p refl) i
+    after ControllersStarted Mode.Full s p r b i = after_starting done (p refl) i
     after (Checking t) Mode.No s p r b i = gone (Checking t)
-    after (Checking t) Mode.Silent s p r b i = let x = on-there _ i.0 (omega (arith, i.1)) in (x.0, x.1, refl)
+    after (Checking t) Mode.Silent s p r b i = let x = on_there _ i.0 (omega (arith, i.1)) in (x.0, x.1, refl)
     after (Checking t) Mode.Full s p r b i =
         split (After (Checking t) Mode.Full) reached
-        (λ _. let x = on-there _ i.0 (omega (arith, i.1)) in (x.0, x.1, refl))
-        (λ _. let x = on-there _ i.0 (omega (arith, i.1)) in (x.0, x.1, refl))
+        (λ _. let x = on_there _ i.0 (omega (arith, i.1)) in (x.0, x.1, refl))
+        (λ _. let x = on_there _ i.0 (omega (arith, i.1)) in (x.0, x.1, refl))
     after Full Mode.No s p r b i = gone Full
-    after Full Mode.Silent s p r b i = let x = on-there _ i.0 (omega (arith, i.1)) in (x.0, x.1, refl)
-    after Full Mode.Full s p r b i = let x = on-there _ i.0 (omega (arith, i.1)) in (x.0, x.1, refl)
+    after Full Mode.Silent s p r b i = let x = on_there _ i.0 (omega (arith, i.1)) in (x.0, x.1, refl)
+    after Full Mode.Full s p r b i = let x = on_there _ i.0 (omega (arith, i.1)) in (x.0, x.1, refl)
     after Restarting Mode.No s p r b i = gone Restarting
-    after Restarting Mode.Silent s p r b i = after-restarting Mode.Silent done (p refl) i
-    after Restarting Mode.Full s p r b i = after-restarting Mode.Full done (p refl) i
+    after Restarting Mode.Silent s p r b i = after_restarting Mode.Silent done (p refl) i
+    after Restarting Mode.Full s p r b i = after_restarting Mode.Full done (p refl) i
     after (Waiting t) Mode.No s p r b i = gone (Waiting t)
     after (Waiting t) Mode.Silent s p r b i =
-        after-waiting t w Mode.Silent EnterSilent reached (r t refl) i (λ l. let x = on-there _ i.0 l in (x.0, x.1, refl))
+        after_waiting t w Mode.Silent EnterSilent reached (r t refl) i (λ l. let x = on_there _ i.0 l in (x.0, x.1, refl))
     after (Waiting t) Mode.Full s p r b i =
-        after-waiting t w Mode.Full EnterFull reached (r t refl) i (λ l. let x = on-there _ i.0 l in (x.0, x.1, refl))
+        after_waiting t w Mode.Full EnterFull reached (r t refl) i (λ l. let x = on_there _ i.0 l in (x.0, x.1, refl))
     after Silent Mode.No s p r b i = gone Silent
-    after Silent Mode.Silent s p r b i = let x = on-there _ i.0 (omega (arith, i.1)) in (x.0, x.1, refl)
-    after Silent Mode.Full s p r b i = let x = on-there _ i.0 (omega (arith, i.1)) in (x.0, x.1, refl)
-    after ClearWake wanted s p r b i = by_move AfterAway done (after-away done) ClearWake wanted refused reached outfit refl refl i
-    after DownStopped wanted s p r b i = by_move AfterAway done (after-away done) DownStopped wanted refused reached outfit refl refl i
-    after TransceiverStandby wanted s p r b i = by_move AfterAway done (after-away done) TransceiverStandby wanted refused reached outfit refl refl i
-    after ControllersSleep wanted s p r b i = by_move AfterAway done (after-away done) ControllersSleep wanted refused reached outfit refl refl i
-    after CheckWake wanted s p r b i = by_move AfterAway done (after-away done) CheckWake wanted refused reached outfit refl refl i
-    after CheckWakeAgain wanted s p r b i = by_move AfterAway done (after-away done) CheckWakeAgain wanted refused reached outfit refl refl i
+    after Silent Mode.Silent s p r b i = let x = on_there _ i.0 (omega (arith, i.1)) in (x.0, x.1, refl)
+    after Silent Mode.Full s p r b i = let x = on_there _ i.0 (omega (arith, i.1)) in (x.0, x.1, refl)
+    after ClearWake wanted s p r b i = by_move AfterAway done (after_away done) ClearWake wanted refused reached outfit refl refl i
+    after DownStopped wanted s p r b i = by_move AfterAway done (after_away done) DownStopped wanted refused reached outfit refl refl i
+    after TransceiverStandby wanted s p r b i = by_move AfterAway done (after_away done) TransceiverStandby wanted refused reached outfit refl refl i
+    after ControllersSleep wanted s p r b i = by_move AfterAway done (after_away done) ControllersSleep wanted refused reached outfit refl refl i
+    after CheckWake wanted s p r b i = by_move AfterAway done (after_away done) CheckWake wanted refused reached outfit refl refl i
+    after CheckWakeAgain wanted s p r b i = by_move AfterAway done (after_away done) CheckWakeAgain wanted refused reached outfit refl refl i
     after ResetStopped Mode.No s p r b i = gone ResetStopped
-    after ResetStopped Mode.Silent s p r b i = after-stopping Mode.Silent done b i
-    after ResetStopped Mode.Full s p r b i = after-stopping Mode.Full done b i
+    after ResetStopped Mode.Silent s p r b i = after_stopping Mode.Silent done b i
+    after ResetStopped Mode.Full s p r b i = after_stopping Mode.Full done b i
     after ResetStarted Mode.No s p r b i = gone ResetStarted
-    after ResetStarted Mode.Silent s p r b i = after-resetting Mode.Silent EnterSilent done (p refl) i (λ y l. (y, l, refl))
-    after ResetStarted Mode.Full s p r b i = after-resetting Mode.Full EnterFull done (p refl) i (λ y l. (y, l, refl))
+    after ResetStarted Mode.Silent s p r b i = after_resetting Mode.Silent EnterSilent done (p refl) i (λ y l. (y, l, refl))
+    after ResetStarted Mode.Full s p r b i = after_resetting Mode.Full EnterFull done (p refl) i (λ y l. (y, l, refl))
 
 -- ---- all that is seen
 module _ (n : Network) (g : InRange n) (f : Distinct (controllers_of n)) (h : OwnHistory) (s : State) (k : Kept n s) (u : up n h ≡ is_up s.step)
@@ -295,31 +295,31 @@ module _ (n : Network) (g : InRange n) (f : Distinct (controllers_of n)) (h : Ow
   StillStands e t = StandsAt n t (e ∷ h)
 
   -- a step that asks the controllers to start is done exactly if all run
-  done-runs : asks_to_start (asks_for s.step) ≡ true → finished n s ≡ all_run n (since (setback n) h)
-  done-runs a = finished-just n s ControllerMode.Started (to_start (asks_for s.step) a) ∙ by-test s.asked refl
+  done_runs : asks_to_start (asks_for s.step) ≡ true → finished n s ≡ all_run n (since (setback n) h)
+  done_runs a = finished_just n s ControllerMode.Started (to_start (asks_for s.step) a) ∙ by_test s.asked refl
     where
       j : Starts n (cause_in (phase_of s.step)) s.asked s.answers s.count (since (setback n) h) (owed n h) (after_stall n h)
       j = rw a at i
 
-      by-test : (b : Bool) → s.asked ≡ b → cond b (every is_okay (heard_of n s)) false ≡ all_run n (since (setback n) h)
-      by-test true e = all_okay n s g f k ∙ every_same (said_okay n s.answers) (λ (c : ℕ). runs c (since (setback n) h))
+      by_test : (b : Bool) → s.asked ≡ b → cond b (every is_okay (heard_of n s)) false ≡ all_run n (since (setback n) h)
+      by_test true e = all_okay n s g f k ∙ every_same (said_okay n s.answers) (λ (c : ℕ). runs c (since (setback n) h))
           (controllers_of n) (λ c m. sym (j.answered c m))
-      by-test false e = sym (none-run n g (since (setback n) h) (λ c m. j.requested c m ∙ e))
+      by_test false e = sym (none_run n g (since (setback n) h) (λ c m. j.requested c m ∙ e))
 
-  stands-tick : StillStands (seen a_tick 0 (tick_hands n s)) (tick_after n s)
+  stands_tick : StillStands (seen a_tick 0 (tick_hands n s)) (tick_after n s)
   unfolding after_move wanted_at_tick
-  stands-tick =
+  stands_tick =
       let m = decides n s in
       let e : Seen = seen a_tick 0 (tick_hands n s) in
-      let shuts : setback n e ≡ is_go_down m = move-shuts n s.step _ m in
+      let shuts : setback n e ≡ is_go_down m = move_shuts n s.step _ m in
       rw (since_by n e h (is_go_down m) shuts, owed_by n e h (is_go_down m) shuts, stall_by n e h (is_go_down m) shuts, ← v)
       (after n g _ s.asked s.answers s.count (since (setback n) h) (owed n h) (after_stall n h) (wanted_at_tick h) (finished n s)
       (any is_refusal (heard_of n s)) (reaches n s) (outfit_of n.transceiver n.partial) s.step s.wanted
-      k.wanted done-runs (reaches-just n s) (finished-asked n s) i)
+      k.wanted done_runs (reaches_just n s) (finished_asked n s) i)
 
-  stands-call : (e : Seen) → Fits n s e → StillStands e (played n s e.sight).state
+  stands_call : (e : Seen) → Fits n s e → StillStands e (played n s e.sight).state
   unfolding any runs wanted_at_tick after_hit made_anew
-  stands-call = by_part n s StillStands (record {
+  stands_call = by_part n s StillStands (record {
     plain = λ sight number wanted reported p.
         let e : Seen = seen sight number [] in
         let calm : setback n e ≡ false = rw (p.bus_off_lem, p.stall) refl in
@@ -329,11 +329,11 @@ module _ (n : Network) (g : InRange n) (f : Distinct (controllers_of n)) (h : Ow
     hears = λ c mode ok m l t.
         let e : Seen = seen (an_answer c mode ok) 0 [] in
         rw (since_by n e h false refl, owed_by n e h false refl, stall_by n e h false refl)
-        (heard-stands n g s k c mode ok m l (since (setback n) h) t (owed n h) (wanted_at_tick h) (after_stall n h) i);
+        (heard_stands n g s k c mode ok m l (since (setback n) h) t (owed n h) (wanted_at_tick h) (after_stall n h) i);
     recovers = λ b.
         let e : Seen = seen a_bus_off 0 (recovery n.handle) in
         rw (since_by n e h true refl, owed_by n e h true refl, stall_by n e h true refl, u, b)
-        (anew n bus_off _ _ refl (sym (delay_follows n g (e ∷ h) (recovered s) (counted-fall n h s u y b))));
+        (anew n bus_off _ _ refl (sym (delay_follows n g (e ∷ h) (recovered s) (counted_fall n h s u y b))));
     restarts = λ b a.
         let e : Seen = seen a_bus_off 0 [] in
         rw (since_by n e h true refl, owed_by n e h true refl, stall_by n e h true refl, u, b, a, down_comes_up (phase_of s.step) b)
@@ -344,14 +344,14 @@ module _ (n : Network) (g : InRange n) (f : Distinct (controllers_of n)) (h : Ow
     resets = λ b.
         let e : Seen = seen a_stall 0 (reset n.handle) in
         rw (since_by n e h true refl, owed_by n e h true refl, stall_by n e h true refl) (nothing_since n, refl, λ a. absurd (false≢true a));
-    ticks = stands-tick;
+    ticks = stands_tick;
   })
 
 pub stands_at : (n : Network) → InRange n → Distinct (controllers_of n) → (h : OwnHistory) → Ran n h → StandsAt n (state_of n h) h
 unfolding state_of Ran started since owed after_stall
 stands_at n g f [] r = rw (first_down_away n.partial) (nothing_since n, refl)
 stands_at n g f (e ∷ h) r =
-    stands-call n g f h (state_of n h) (state_kept n g h r.1) (up_means n h r.1) (wanted_follows n h r.1) (counted n g h r.1)
+    stands_call n g f h (state_of n h) (state_kept n g h r.1) (up_means n h r.1) (wanted_follows n h r.1) (counted n g h r.1)
     (stands_at n g f h r.1) e r.0
 
 -- ---- exactly when full is told
@@ -412,23 +412,23 @@ module _ (n : Network) (g : InRange n) (f : Distinct (controllers_of n)) (h : Ow
   q = since (setback n) h
 
   -- full is told exactly where the network is there
-  told-there : eqb 2 (told n h) ≡ is_there (way_of w.step)
-  told-there = told_in_full n g h r ∙ full_there w.step
+  told_there : eqb 2 (told n h) ≡ is_there (way_of w.step)
+  told_there = told_in_full n g h r ∙ full_there w.step
 
   pub told_exactly : Told n h
   told_exactly =
-      told-there ∙ due_there n (way_of w.step) w.asked w.answers w.count (owed n h) (wanted_at_tick h) q (after_stall n h)
+      told_there ∙ due_there n (way_of w.step) w.asked w.answers w.count (owed n h) (wanted_at_tick h) q (after_stall n h)
       (stands_at n g f h r)
 
-  pub never-sooner : ltb 0 (first_running n q) ≡ leb (soonest (after_stall n h)) (first_running n q)
-  never-sooner =
+  pub never_sooner : ltb 0 (first_running n q) ≡ leb (soonest (after_stall n h)) (first_running n q)
+  never_sooner =
       not_sooner n (way_of w.step) w.asked w.answers w.count (owed n h) (wanted_at_tick h) q (after_stall n h) (stands_at n g f h r)
 
   pub told_no : ToldNo n h
   told_no = ap (eqb 0) (sym (told_follows n h r)) ∙ (says n h r).silence
 
   -- demand 3, first sentence
-  pub first-sentence : Answered n h
-  first-sentence e =
+  pub first_sentence : Answered n h
+  first_sentence e =
       there_running n (way_of w.step) w.asked w.answers w.count (owed n h) (wanted_at_tick h) q (after_stall n h) (stands_at n g f h r)
-      (sym told-there ∙ ap (eqb 2) e)
+      (sym told_there ∙ ap (eqb 2) e)

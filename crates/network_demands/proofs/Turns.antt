@@ -9,8 +9,8 @@ use Rattle.steps.specs.declared.Step.{Step}
 use Rattle.steps.specs.declared.Step.TheVariants.{ControllersStopped, ControllersStarted, ResetStopped}
 use Rattle.steps.specs.declared.Move.{Move}
 use Rattle.steps.specs.Steps.{phase_of, asks_for, full_phase, is_on, is_up, is_full_step, asks_to_start}
-use Rattle.steps.specs.Decision.{is_no, goes_down}
-use Rattle.steps.specs.After.{first_down, step_after}
+use Rattle.steps.specs.Decision.{is_no, goes_down_lem}
+use Rattle.steps.specs.After.{first_down, step_after_lem}
 use Rattle.network.specs.declared.Report.{Report}
 use Rattle.network.specs.declared.State.{State}
 use Rattle.network.specs.Answers.{awaits}
@@ -20,10 +20,10 @@ use Rattle.network_demands.specs.Words.{Seen, hands}
 use Rattle.network_demands.specs.Own.{finished, decides, tick_hands}
 use Rattle.network_demands.specs.Promises.{hands_kind, StaysDown}
 use Rattle.network_demands.proofs.Views.{seen}
-use Rattle.network_demands.proofs.Handed.{given, nothing_lowered, hands_by, is_go_down, is_enter_full, is_enter_silent, is_end, pduSays, pdu-given, move-says-full}
+use Rattle.network_demands.proofs.Handed.{given, nothing_lowered, hands_by, is_go_down, is_enter_full, is_enter_silent, is_end, pdu_says, pdu_given, move_says_full}
 use Rattle.network_demands.proofs.Arrows.{suits, own_outfit, rested_phase, has_rested, has_begun, on_rested, up_rested, Down, first_down_lem, Asks}
 use Rattle.network_demands.proofs.Arrows.{by_tick_arrow}
-use Rattle.network_demands.proofs.Given.{awaits_started, controllerSays, controller-given, roundSays, round-given}
+use Rattle.network_demands.proofs.Given.{awaits_started, controller_says, controller_given, round_says, round_given}
 
 -- ---- modes
 no_number : (mode : Mode) → is_no mode ≡ eqb 0 (mode_number mode)
@@ -31,13 +31,13 @@ no_number Mode.No = refl
 no_number Mode.Silent = refl
 no_number Mode.Full = refl
 
-down_number : (step : Step) (mode : Mode) → goes_down step mode ≡ eqb 0 (mode_number mode) && is_on step
+down_number : (step : Step) (mode : Mode) → goes_down_lem step mode ≡ eqb 0 (mode_number mode) && is_on step
 down_number step Mode.No = refl
 down_number step Mode.Silent = refl
 down_number step Mode.Full = refl
 
 -- a step that is on and does not go down
-no_unwanted : (step : Step) (mode : Mode) → is_on step ≡ true → goes_down step mode ≡ false → eqb 0 (mode_number mode) ≡ false
+no_unwanted : (step : Step) (mode : Mode) → is_on step ≡ true → goes_down_lem step mode ≡ false → eqb 0 (mode_number mode) ≡ false
 no_unwanted step Mode.No o g = absurd (true≢false (sym o ∙ g))
 no_unwanted step Mode.Silent o g = refl
 no_unwanted step Mode.Full o g = refl
@@ -64,10 +64,10 @@ module _ (n : Network) (s : State) (u : suits (own_outfit n) s.step ≡ true) (k
 
   -- a full step stays full exactly if full is wanted
   abbrev FullStays : Step → Mode → Move → Type 0
-  FullStays step wanted m = is_full_step step ≡ true → is_full_step (step_after m step n.partial) ≡ eqb 2 (mode_number wanted)
+  FullStays step wanted m = is_full_step step ≡ true → is_full_step (step_after_lem m step n.partial) ≡ eqb 2 (mode_number wanted)
 
-  pub full-stays : FullStays s.step s.wanted m
-  full-stays = by_tick_arrow n s FullStays (record {
+  pub full_stays : FullStays s.step s.wanted m
+  full_stays = by_tick_arrow n s FullStays (record {
     rests = λ wanted w f. absurd (false≢true f);
     called = λ u f. absurd (false≢true f);
     called_bare = λ u f. absurd (false≢true f);
@@ -118,14 +118,14 @@ module _ (n : Network) (s : State) (u : suits (own_outfit n) s.step ≡ true) (k
       }) u k
 
   -- full is entered from a step that is not full, where full is wanted
-  pub full-begins : is_enter_full m ≡ true → (is_full_step s.step ≡ false) × (mode_number s.wanted ≡ 2)
-  full-begins =
+  pub full_begins : is_enter_full m ≡ true → (is_full_step s.step ≡ false) × (mode_number s.wanted ≡ 2)
+  full_begins =
       entered true false false (λ step wanted. (is_full_step step ≡ false) × (mode_number wanted ≡ 2))
       (λ _. (refl, refl)) (λ _ step e. (e, refl)) (λ z. absurd (false≢true z)) (λ z. absurd (false≢true z))
 
   -- silent is entered where silent is wanted
-  pub silence-wanted : is_enter_silent m ≡ true → mode_number s.wanted ≡ 1
-  silence-wanted =
+  pub silence_wanted : is_enter_silent m ≡ true → mode_number s.wanted ≡ 1
+  silence_wanted =
       entered false true false (λ step wanted. mode_number wanted ≡ 1)
       (λ z. absurd (false≢true z)) (λ z. absurd (false≢true z)) (λ _ step. refl) (λ z. absurd (false≢true z))
 
@@ -172,9 +172,9 @@ module _ (n : Network) (s : State) (u : suits (own_outfit n) s.step ≡ true) (k
     pub again : step ≡ ResetStopped → finished n s ≡ true
 
   -- a step that asks again to start is on, and has begun
-  begins-again : (c : ℕ) (step : Step) (wanted : Mode) → Asks (own_outfit n) step → goes_down step wanted ≡ false
+  begins_again : (c : ℕ) (step : Step) (wanted : Mode) → Asks (own_outfit n) step → goes_down_lem step wanted ≡ false
       → awaits (asks_for step) (Report.Controller 1) && member c (controllers_of n) ≡ true → StartAsked c step wanted
-  begins-again c step wanted a g f =
+  begins_again c step wanted a g f =
       let both = and_both (awaits (asks_for step) (Report.Controller 1)) _ f in
       let starts = sym (awaits_started (asks_for step)) ∙ both.0 in
       let o = a.starts_on starts in
@@ -187,7 +187,7 @@ module _ (n : Network) (s : State) (u : suits (own_outfit n) s.step ≡ true) (k
       }
 
   abbrev Begins : ℕ → Step → Mode → Move → Type 0
-  Begins c step wanted m = given (controllerSays n c 1) n.partial step s.told m ≡ true → StartAsked c step wanted
+  Begins c step wanted m = given (controller_says n c 1) n.partial step s.told m ≡ true → StartAsked c step wanted
 
   pub begins : (c : ℕ) → hands 1 c 1 ticking ≡ true → StartAsked c s.step s.wanted
   begins c f = by_tick_arrow n s (Begins c) (record {
@@ -197,7 +197,7 @@ module _ (n : Network) (s : State) (u : suits (own_outfit n) s.step ≡ true) (k
     climbs = λ d f. absurd (false≢true f);
     begins = λ d f. record { own = f; while_on = refl; called = refl; first = λ e. (refl, d); again = λ _. d };
     starts = λ d f. absurd (false≢true f);
-    asks_again = λ step wanted a g f. begins-again c step wanted a g f;
+    asks_again = λ step wanted a g f. begins_again c step wanted a g f;
     checks = λ t r f. absurd (false≢true f);
     passes = λ t r f. absurd (false≢true f);
     stays_full = λ f. absurd (false≢true f);
@@ -211,12 +211,12 @@ module _ (n : Network) (s : State) (u : suits (own_outfit n) s.step ≡ true) (k
     goes_down_lem = λ step o f. absurd (false≢true (rw (nothing_lowered s.told, first_down_starts_not n.partial) at f));
     sinks = λ step next wanted d e _ f. absurd (false≢true (rw (awaits_started (asks_for next), e.starts_not) at f));
     ends = λ step wanted d f. absurd (false≢true f);
-  }) u k (sym (controller-given n c 1 s.step s.told m) ∙ f)
+  }) u k (sym (controller_given n c 1 s.step s.told m) ∙ f)
 
   -- a network that goes down is asked no start, gets no PDU mode and does not enter full
   abbrev Sinks : Step → Mode → Move → Type 0
-  Sinks step wanted m = has_rested step ≡ false → ((c : ℕ) → given (controllerSays n c 1) n.partial step s.told m ≡ false)
-      × (given (pduSays n) n.partial step s.told m ≡ false) × (is_enter_full m ≡ false)
+  Sinks step wanted m = has_rested step ≡ false → ((c : ℕ) → given (controller_says n c 1) n.partial step s.told m ≡ false)
+      × (given (pdu_says n) n.partial step s.told m ≡ false) × (is_enter_full m ≡ false)
 
   pub sinks : has_rested s.step ≡ false → StaysDown n ticking
   sinks f =
@@ -244,18 +244,18 @@ module _ (n : Network) (s : State) (u : suits (own_outfit n) s.step ≡ true) (k
         ends = λ step wanted d f. (λ c. refl, refl, refl);
       }) u k f in
       record {
-        not_started = λ c. controller-given n c 1 s.step s.told m ∙ x.0 c;
-        no_traffic = pdu-given n s.step s.told m ∙ x.1;
-        not_full = move-says-full n s.step s.told m ∙ x.2;
+        not_started = λ c. controller_given n c 1 s.step s.told m ∙ x.0 c;
+        no_traffic = pdu_given n s.step s.told m ∙ x.1;
+        not_full = move_says_full n s.step s.told m ∙ x.2;
       }
 
   -- on the way to a full step, and in it, no controller is asked for anything
   abbrev FullRests : Step → Mode → Move → Type 0
   FullRests step wanted m =
-      is_full_step (step_after m step n.partial) ≡ true → given (roundSays n) n.partial step s.told m ≡ false
+      is_full_step (step_after_lem m step n.partial) ≡ true → given (round_says n) n.partial step s.told m ≡ false
 
-  pub full-rests : is_full_step (step_after m s.step n.partial) ≡ true → hands_kind 1 ticking ≡ false
-  full-rests f = round-given n s.step s.told m ∙ by_tick_arrow n s FullRests (record {
+  pub full_rests : is_full_step (step_after_lem m s.step n.partial) ≡ true → hands_kind 1 ticking ≡ false
+  full_rests f = round_given n s.step s.told m ∙ by_tick_arrow n s FullRests (record {
     rests = λ wanted w f. refl;
     called = λ u f. absurd (false≢true f);
     called_bare = λ u f. absurd (false≢true f);

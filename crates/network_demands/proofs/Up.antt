@@ -7,7 +7,7 @@ use Rattle.settings.specs.declared.Network.{Network}
 use Rattle.steps.specs.declared.Step.{Step}
 use Rattle.steps.specs.declared.Move.{Move}
 use Rattle.steps.specs.Steps.{up_phase, is_up}
-use Rattle.steps.specs.After.{first_down, step_after}
+use Rattle.steps.specs.After.{first_down, step_after_lem}
 use Rattle.handing.specs.Handing.{recovery, reset}
 use Rattle.network.specs.declared.State.{State}
 use Rattle.network.specs.State.{started}
@@ -19,7 +19,7 @@ use Rattle.network_demands.specs.Words.{Seen, OwnHistory, hands, since, shut, up
 use Rattle.network_demands.specs.Own.{finished, decides, tick_after, tick_hands, played, state_of, Fits, Ran}
 use Rattle.network_demands.proofs.Views.{seen, by_part, by_tick}
 use Rattle.network_demands.proofs.Arrows.{first_down_lem}
-use Rattle.network_demands.proofs.Handed.{is_go_down, is_enter_full, is_end, move-shuts, move-says-full, move-says-no}
+use Rattle.network_demands.proofs.Handed.{is_go_down, is_enter_full, is_end, move_shuts, move_says_full, move_says_no}
 
 -- full was told since no was last told
 abbrev spoken : Network → OwnHistory → Bool
@@ -28,11 +28,11 @@ spoken n h = any (hands 6 n.handle 2) (since (hands 6 n.handle 0) h)
 -- what is said of an entry that follows the last one that passes a test, with one entry more
 pub any_since : (p q : Seen → Bool) (e : Seen) (h : OwnHistory) → any p (since q (e ∷ h)) ≡ cond (q e) false (p e || any p (since q h))
 unfolding since any
-any_since p q e h = by-test (q e)
+any_since p q e h = by_test (q e)
   where
-    by-test : (b : Bool) → any p (cond b [] (e ∷ since q h)) ≡ cond b false (p e || any p (since q h))
-    by-test true = refl
-    by-test false = refl
+    by_test : (b : Bool) → any p (cond b [] (e ∷ since q h)) ≡ cond b false (p e || any p (since q h))
+    by_test true = refl
+    by_test false = refl
 
 -- what was told, by the record: its step says whether the network is up; no was told last exactly if full was not told since; up, full was
 pub record Says (n : Network) (s : State) (h : OwnHistory) : Type 0 where
@@ -46,7 +46,7 @@ first_down_not_up partial = ap up_phase (first_down_lem partial).falls
 
 -- the move that enters full makes a network up, the one that goes down ends that
 abbrev UpAfter : Bool → Step → Mode → Move → Type 0
-UpAfter partial step wanted m = is_up (step_after m step partial) ≡ cond (is_go_down m) false (is_enter_full m || is_up step)
+UpAfter partial step wanted m = is_up (step_after_lem m step partial) ≡ cond (is_go_down m) false (is_enter_full m || is_up step)
 
 up_after : (partial done : Bool) → ByMove done (UpAfter partial)
 up_after partial done = record {
@@ -68,7 +68,7 @@ abbrev VoiceAfter : Bool → Mode → Bool → Step → Mode → Move → Type 0
 VoiceAfter partial told spoken step wanted m =
     eqb 0 (mode_number told) ≡ not spoken → (is_up step ≡ true → spoken ≡ true)
     → (eqb 0 (mode_number (told_after m told)) ≡ not (cond (is_end m) false (is_enter_full m || spoken)))
-    × (is_up (step_after m step partial) ≡ true → cond (is_end m) false (is_enter_full m || spoken) ≡ true)
+    × (is_up (step_after_lem m step partial) ≡ true → cond (is_end m) false (is_enter_full m || spoken) ≡ true)
 
 lowered_no : (told : Mode) → eqb 0 (mode_number (lowered told)) ≡ eqb 0 (mode_number told)
 lowered_no Mode.No = refl
@@ -105,14 +105,14 @@ module _ (n : Network) (h : OwnHistory) (s : State) (k : Says n s h) where
         voice = λ u. same ∙ k.voice (sym step ∙ u);
       }
 
-  says-tick : StillSays (seen a_tick 0 (tick_hands n s)) (tick_after n s)
+  says_tick : StillSays (seen a_tick 0 (tick_hands n s)) (tick_after n s)
   unfolding after_move
-  says-tick =
+  says_tick =
       let e : Seen = seen a_tick 0 (tick_hands n s) in
       let m = decides n s in
-      let full : hands 6 n.handle 2 e ≡ is_enter_full m = move-says-full n s.step _ m in
-      let no : hands 6 n.handle 0 e ≡ is_end m = move-says-no n s.step _ m in
-      let shuts : shut n e ≡ is_go_down m = move-shuts n s.step _ m in
+      let full : hands 6 n.handle 2 e ≡ is_enter_full m = move_says_full n s.step _ m in
+      let no : hands 6 n.handle 0 e ≡ is_end m = move_says_no n s.step _ m in
+      let shuts : shut n e ≡ is_go_down m = move_shuts n s.step _ m in
       let said : spoken n (e ∷ h) ≡ cond (is_end m) false (is_enter_full m || spoken n h) = any_since _ _ e h ∙ rw (full, no) refl in
       let voice = by_tick n s (VoiceAfter n.partial s.told (spoken n h)) (voice_after n.partial s.told (spoken n h) (finished n s))
       k.silence k.voice in
@@ -123,9 +123,9 @@ module _ (n : Network) (h : OwnHistory) (s : State) (k : Says n s h) where
         voice = λ u. said ∙ voice.1 u;
       }
 
-  says-call : (e : Seen) → Fits n s e → StillSays e (played n s e.sight).state
+  says_call : (e : Seen) → Fits n s e → StillSays e (played n s e.sight).state
   unfolding any recovery reset after_hit made_anew
-  says-call = by_part n s StillSays (record {
+  says_call = by_part n s StillSays (record {
     plain = λ sight number mode reported p. says_same _ _ refl refl refl refl refl;
     hears = λ c mode ok m l e. says_same _ _ refl refl refl refl refl;
     recovers = λ u.
@@ -133,7 +133,7 @@ module _ (n : Network) (h : OwnHistory) (s : State) (k : Says n s h) where
     restarts = λ u a. says_same _ _ refl refl refl refl refl;
     not_taken = λ u a. says_same _ _ refl refl refl refl refl;
     resets = λ f. let u = (full_quiet s.step f).up in says_same _ _ refl refl refl (sym u) (sym (k.silence ∙ ap not (k.voice u)));
-    ticks = says-tick;
+    ticks = says_tick;
   })
 
 pub says : (n : Network) (h : OwnHistory) → Ran n h → Says n (state_of n h) h
@@ -141,7 +141,7 @@ unfolding state_of Ran started since any
 says n [] r =
     let down = first_down_not_up n.partial in
     record { stands = sym down; silence = refl; voice = λ u. absurd (false≢true (sym down ∙ u)) }
-says n (e ∷ h) r = says-call n h (state_of n h) (says n h r.1) e r.0
+says n (e ∷ h) r = says_call n h (state_of n h) (says n h r.1) e r.0
 
 -- up is read off what was told: a network is up in steps 4 to 8, 15 and 16
 pub up_means : (n : Network) (h : OwnHistory) → Ran n h → up n h ≡ is_up (state_of n h).step

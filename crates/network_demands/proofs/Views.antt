@@ -34,7 +34,7 @@ use Rattle.network.specs.Parts.{answer_part}
 use Rattle.network_theorems.specs.Kept.{is_full_mode, Kept}
 use Rattle.network_theorems.proofs.Moves.{ByMove, by_move}
 use Rattle.network_theorems.proofs.Kept.{move_kept, want_kept, hit_kept, answer_kept, report_kept}
-use Rattle.network_theorems.proofs.Parts.{refusal_refuses, by_hit, by-request, by-report, by_answer}
+use Rattle.network_theorems.proofs.Parts.{refusal_refuses, by_hit, by_request, by_report, by_answer}
 use Rattle.network_demands.specs.Words.{Seen, is_tick, is_bus_off, is_stall, is_answer_on, wanted_by}
 use Rattle.network_demands.specs.Own.{finished, reaches, decides, tick_after, tick_hands, recovered, restarted, stalls, reset_after, hit_after}
 use Rattle.network_demands.specs.Own.{played, handed, concerns, Fits}
@@ -145,10 +145,10 @@ module _ (n : Network) (s : State) (P : Seen → State → Type 0) (by : ByPart 
       refused c' mode' value m true e = z (own c' m (and_both (eqb c' c) _ e).0)
 
   -- an answer that is taken, of a controller of the network or of another
-  heard-by : (c mode ok : ℕ) → ltb 1 ok ≡ false → takes_report s (Report.Controller mode) ≡ true → (own : Bool) → member c (controllers_of n) ≡ own
+  heard_by : (c mode ok : ℕ) → ltb 1 ok ≡ false → takes_report s (Report.Controller mode) ≡ true → (own : Bool) → member c (controllers_of n) ≡ own
       → P (seen (an_answer c mode ok) 0 []) (cond own (heard_state n s c ok) s)
-  heard-by c mode ok l t true m = by.hears c mode ok m l t
-  heard-by c mode ok l t false m = unheard c mode ok 0 (λ e. absurd (true≢false (sym e ∙ m))) (λ e _. absurd (true≢false (sym e ∙ m)))
+  heard_by c mode ok l t true m = by.hears c mode ok m l t
+  heard_by c mode ok l t false m = unheard c mode ok 0 (λ e. absurd (true≢false (sym e ∙ m))) (λ e _. absurd (true≢false (sym e ∙ m)))
 
   -- ---- by what is seen
   -- an entry whose answer is the one that is due
@@ -160,33 +160,33 @@ module _ (n : Network) (s : State) (P : Seen → State → Type 0) (by : ByPart 
   refuses refusal number e = ap (eqb 0) e ∙ refusal_refuses refusal
 
   -- no step asks for a mode above 2
-  above-not-taken : (mode : ℕ) → 2 < mode → takes_report s (Report.Controller mode) ≡ false
+  above_not_taken : (mode : ℕ) → 2 < mode → takes_report s (Report.Controller mode) ≡ false
   unfolding takes_report
-  above-not-taken mode l = by-ask s.asked (asks_for s.step)
+  above_not_taken mode l = by_ask s.asked (asks_for s.step)
     where
-      by-ask : (asked : Bool) (ask : Ask) → cond asked (awaits ask (Report.Controller mode)) false ≡ false
-      by-ask false ask = refl
-      by-ask true Ask.Nothing = refl
-      by-ask true (Ask.Controllers ControllerMode.Stopped) = ne_eqb 0 mode (λ e. omega (arith, e))
-      by-ask true (Ask.Controllers ControllerMode.Started) = ne_eqb 1 mode (λ e. omega (arith, e))
-      by-ask true (Ask.Controllers ControllerMode.Sleep) = ne_eqb 2 mode (λ e. omega (arith, e))
-      by-ask true (Ask.Transceiver asked) = refl
-      by-ask true Ask.ClearWake = refl
-      by-ask true Ask.CheckWake = refl
+      by_ask : (asked : Bool) (ask : Ask) → cond asked (awaits ask (Report.Controller mode)) false ≡ false
+      by_ask false ask = refl
+      by_ask true Ask.Nothing = refl
+      by_ask true (Ask.Controllers ControllerMode.Stopped) = ne_eqb 0 mode (λ e. omega (arith, e))
+      by_ask true (Ask.Controllers ControllerMode.Started) = ne_eqb 1 mode (λ e. omega (arith, e))
+      by_ask true (Ask.Controllers ControllerMode.Sleep) = ne_eqb 2 mode (λ e. omega (arith, e))
+      by_ask true (Ask.Transceiver asked) = refl
+      by_ask true Ask.ClearWake = refl
+      by_ask true Ask.CheckWake = refl
 
   answers : (c mode ok number : ℕ) → Due (an_answer c mode ok) number (answer_part n s c mode ok)
   unfolding after_answer
   answers c mode ok number =
       by_answer s (Due (an_answer c mode ok) number) n c mode ok
       (λ l t e. subst (λ (k : ℕ). P (seen (an_answer c mode ok) k []) (after_answer n s c (eqb ok 1))) (sym e)
-      (heard-by c mode ok l t (member c (controllers_of n)) refl))
+      (heard_by c mode ok l t (member c (controllers_of n)) refl))
       (λ o e. unheard c mode ok number (λ _. refuses Refusal.OutOfRange number e) (λ _ f. absurd (omega (arith, ltb-true 1 ok o, f))))
-      (λ o e. unheard c mode ok number (λ _. refuses Refusal.OutOfRange number e) (λ _ _. above-not-taken mode (ltb-true 2 mode o)))
+      (λ o e. unheard c mode ok number (λ _. refuses Refusal.OutOfRange number e) (λ _ _. above_not_taken mode (ltb-true 2 mode o)))
       (λ t e. unheard c mode ok number (λ _. refuses Refusal.NotTaken number e) (λ _ _. t))
 
   requests : (asked number : ℕ) → Due (a_request asked) number (request_part s asked)
   unfolding wants
-  requests asked number = by-request s (Due (a_request asked) number) asked
+  requests asked number = by_request s (Due (a_request asked) number) asked
       (λ mode same may e. subst (λ (k : ℕ). P (seen (a_request asked) k []) (wants s mode)) (sym e)
       (by.plain (a_request asked) 0 mode s.reported (record {
         tick = refl;
@@ -207,7 +207,7 @@ module _ (n : Network) (s : State) (P : Seen → State → Type 0) (by : ByPart 
 
   reports : (report : Report) (number : ℕ) → Due (a_report report) number (report_part s report)
   unfolding report_part after_report
-  reports report number = by-report s (Due (a_report report) number) report _
+  reports report number = by_report s (Due (a_report report) number) report _
       (λ t e. quiet (a_report report) number true refl refl refl (λ c mode value. refl) (either_way (eqb 0 number) (mode_number s.wanted))
       (rw (t, e) (sym (or-true s.reported))) (report_kept n s report t))
       (λ _. unchanged Refusal.OutOfRange) (λ _. unchanged Refusal.NotTaken)
@@ -235,16 +235,16 @@ module _ (n : Network) (s : State) (P : Seen → State → Type 0) (by : ByPart 
       (λ f e. quiet a_stall number s.reported refl refl (refuses Refusal.NotTaken number e) (λ c mode value. refl)
       (either_way (eqb 0 number) (mode_number s.wanted)) (sym (or-false s.reported)) (λ k. k)))
 
-  by-sight : (sight : Sight) (number : ℕ) → (concerns sight ≡ true → number ≡ reply_number (played n s sight).reply)
+  by_sight : (sight : Sight) (number : ℕ) → (concerns sight ≡ true → number ≡ reply_number (played n s sight).reply)
       → P (seen sight number (handed n s sight)) (played n s sight).state
   unfolding played handed
-  by-sight a_tick number f = subst (λ (k : ℕ). P (seen a_tick k (tick_hands n s)) (tick_after n s)) (sym (f refl)) by.ticks
-  by-sight a_bus_off number f = bus_offs number (f refl)
-  by-sight a_stall number f = stalling number (f refl)
-  by-sight (an_answer c mode ok) number f = answers c mode ok number (f refl)
-  by-sight (a_request mode) number f = requests mode number (f refl)
-  by-sight (a_report report) number f = reports report number (f refl)
-  by-sight nothing number f =
+  by_sight a_tick number f = subst (λ (k : ℕ). P (seen a_tick k (tick_hands n s)) (tick_after n s)) (sym (f refl)) by.ticks
+  by_sight a_bus_off number f = bus_offs number (f refl)
+  by_sight a_stall number f = stalling number (f refl)
+  by_sight (an_answer c mode ok) number f = answers c mode ok number (f refl)
+  by_sight (a_request mode) number f = requests mode number (f refl)
+  by_sight (a_report report) number f = reports report number (f refl)
+  by_sight nothing number f =
       quiet nothing number s.reported refl refl refl (λ c mode value. refl) (either_way (eqb 0 number) (mode_number s.wanted))
       (sym (or-false s.reported)) (λ k. k)
 
@@ -252,7 +252,7 @@ module _ (n : Network) (s : State) (P : Seen → State → Type 0) (by : ByPart 
   pub by_part : (e : Seen) → Fits n s e → P e (played n s e.sight).state
   by_part e f =
       subst (λ (x : Seen). P x (played n s e.sight).state)
-      (λ i. record { sight = e.sight; number = e.number; records = sym f.records i }) (by-sight e.sight e.number f.number)
+      (λ i. record { sight = e.sight; number = e.number; records = sym f.records i }) (by_sight e.sight e.number f.number)
 
 -- whatever holds of each kind of move holds of the one that a tick decides
 pub by_tick : (n : Network) (s : State) (P : Step → Mode → Move → Type 0) → ByMove (finished n s) P → P s.step s.wanted (decides n s)

@@ -14,7 +14,7 @@ use Rattle.steps.specs.declared.Step.TheVariants.{CheckWake, CheckWakeAgain, Res
 use Rattle.steps.specs.declared.Move.{Move}
 use Rattle.steps.specs.Steps.{up_phase, is_asking}
 use Rattle.steps.specs.Decision.{risen}
-use Rattle.steps.specs.After.{step_after}
+use Rattle.steps.specs.After.{step_after_lem}
 use Rattle.network.specs.declared.Heard.{Heard}
 use Rattle.network.specs.declared.State.{State}
 use Rattle.network.specs.Moving.{after_move}
@@ -24,7 +24,7 @@ use Rattle.network_demands.specs.Own.{decides, tick_after, tick_hands, played, s
 use Rattle.network_demands.specs.Promises.{wait_begins}
 use Rattle.network_demands.proofs.Views.{seen}
 use Rattle.network_demands.proofs.Arrows.{by_tick_arrow}
-use Rattle.network_demands.proofs.Handed.{is_wait, is_go_down, both_by, none_by, move-shuts}
+use Rattle.network_demands.proofs.Handed.{is_wait, is_go_down, both_by, none_by, move_shuts}
 use Rattle.network_demands.proofs.Follows.{state_kept}
 use Rattle.network_demands.proofs.Running.{since_by, owed_by}
 use Rattle.network_demands.proofs.Way.{Way, away, stopping, starting, delayed, there, silenced, way_of, is_beginning, way_away, first_down_away}
@@ -60,7 +60,7 @@ risen_some t = split (λ (x : ℕ). false ≡ eqb 0 x) (ltb t 65535) (λ _. sym 
 
 -- the move that waits leads to where the delay begins, and no other does
 abbrev Waits : Bool → Step → Mode → Move → Type 0
-Waits partial step wanted m = is_wait m ≡ is_beginning (way_of (step_after m step partial))
+Waits partial step wanted m = is_wait m ≡ is_beginning (way_of (step_after_lem m step partial))
 
 module _ (n : Network) (g : InRange n) (h : OwnHistory) (r : Ran n h) where
   abbrev s : State
@@ -102,36 +102,36 @@ module _ (n : Network) (g : InRange n) (h : OwnHistory) (r : Ran n h) where
   passed (suc d) q l = rw (ne_eqb (first_running n q) (tally ticked q) (λ e. omega (arith, l, e))) (sym (and-false (ltb 0 (suc d))))
 
   -- q being what follows the last setback, with some tick, d the delay owed since
-  begins-by : (way : Way) (asked : Bool) (answers : List Heard) (count d w : ℕ) (q : OwnHistory) (x : Bool) → 0 < tally ticked q
+  begins_by : (way : Way) (asked : Bool) (answers : List Heard) (count d w : ℕ) (q : OwnHistory) (x : Bool) → 0 < tally ticked q
       → Stands n way asked answers count q d w x → is_beginning way ≡ ltb 0 d && eqb (first_running n q) (tally ticked q)
-  begins-by away asked answers count d w q x l i = rw i.0.delay refl
-  begins-by stopping asked answers count d w q x l i = rw i.0.delay refl
-  begins-by (starting cause) asked answers count d w q x l i =
+  begins_by away asked answers count d w q x l i = rw i.0.delay refl
+  begins_by stopping asked answers count d w q x l i = rw i.0.delay refl
+  begins_by (starting cause) asked answers count d w q x l i =
       rw (i.none, ne_eqb 0 (tally ticked q) (λ e. omega (arith, e))) (sym (and-false (ltb 0 d)))
-  begins-by (delayed zero) asked answers count d w q x l i =
+  begins_by (delayed zero) asked answers count d w q x l i =
       rw (lt-ltb 0 d i.3, eq-eqb (first_running n q) (tally ticked q) (omega (arith, i.2))) refl
-  begins-by (delayed (suc t)) asked answers count d w q x l i =
+  begins_by (delayed (suc t)) asked answers count d w q x l i =
       rw (ne_eqb 0 (suc t) (λ e. omega (arith, e)), ne_eqb (first_running n q) (tally ticked q) (λ e. omega (arith, i.2, e)))
       (sym (and-false (ltb 0 d)))
-  begins-by there asked answers count d w q x l i = passed d q i.1
-  begins-by silenced asked answers count d w q x l i = passed d q i.1
+  begins_by there asked answers count d w q x l i = passed d q i.1
+  begins_by silenced asked answers count d w q x l i = passed d q i.1
 
   -- the tick decides to wait exactly if the wait begins with it
-  pub wait-begins : Distinct (controllers_of n) → Ran n (e ∷ h) → is_wait m ≡ wait_begins n (e ∷ h)
+  pub wait_begins_lem : Distinct (controllers_of n) → Ran n (e ∷ h) → is_wait m ≡ wait_begins n (e ∷ h)
   unfolding state_of played after_move tally
-  wait-begins f now = by-test (is_go_down m) refl
+  wait_begins_lem f now = by_test (is_go_down m) refl
     where
       shuts : setback n e ≡ is_go_down m
-      shuts = move-shuts n s.step _ m
+      shuts = move_shuts n s.step _ m
 
-      not-both : is_wait m && is_go_down m ≡ false
-      not-both = both_by ◌&&◌ refl false false false true false false false false false false true false m ∙ none_by m
+      not_both : is_wait m && is_go_down m ≡ false
+      not_both = both_by ◌&&◌ refl false false false true false false false false false false true false m ∙ none_by m
 
-      by-test : (b : Bool) → is_go_down m ≡ b → is_wait m ≡ wait_begins n (e ∷ h)
-      by-test true z =
-          sym (and-true (is_wait m)) ∙ ap (λ (b : Bool). is_wait m && b) (sym z) ∙ not-both ∙ rw (owed_by n e h true (shuts ∙ z)) refl
-      by-test false z =
+      by_test : (b : Bool) → is_go_down m ≡ b → is_wait m ≡ wait_begins n (e ∷ h)
+      by_test true z =
+          sym (and-true (is_wait m)) ∙ ap (λ (b : Bool). is_wait m && b) (sym z) ∙ not_both ∙ rw (owed_by n e h true (shuts ∙ z)) refl
+      by_test false z =
           let after = tick_after n s in
           let some : 0 < tally ticked (since (setback n) (e ∷ h)) = rw (since_by n e h false (shuts ∙ z)) (omega arith) in
-          waits ∙ begins-by (way_of after.step) after.asked after.answers after.count (owed n (e ∷ h)) (wanted_at_tick (e ∷ h))
+          waits ∙ begins_by (way_of after.step) after.asked after.answers after.count (owed n (e ∷ h)) (wanted_at_tick (e ∷ h))
           (since (setback n) (e ∷ h)) (after_stall n (e ∷ h)) some (stands_at n g f (e ∷ h) now)

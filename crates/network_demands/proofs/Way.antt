@@ -28,7 +28,7 @@ use Rattle.network_demands.proofs.Views.{seen, heard_state, starts_asks}
 use Rattle.network_demands.proofs.Arrows.{first_down_lem}
 use Rattle.network_demands.proofs.Handed.{eqb_same}
 use Rattle.network_demands.proofs.Slots.{said_okay, no_answer_yet, okay_own, okay_other}
-use Rattle.network_demands.proofs.Running.{first-no-tick}
+use Rattle.network_demands.proofs.Running.{first_no_tick}
 
 -- ---- the way to full
 -- why the controllers are asked to start: the network comes up, or a bus_off_lem or a stall came
@@ -140,11 +140,11 @@ full_phase_there Phase.Resetting timer = refl
 
 -- a step that asks the controllers to start is none of them
 pub starts_not_full : (step : Step) → asks_to_start (asks_for step) ≡ true → is_full_step step ≡ false
-starts_not_full step a = by-test (is_full_step step) refl
+starts_not_full step a = by_test (is_full_step step) refl
   where
-    by-test : (b : Bool) → is_full_step step ≡ b → b ≡ false
-    by-test true e = absurd (true≢false (sym (starts_asks (asks_for step) a) ∙ (full_quiet step e).quiet))
-    by-test false e = refl
+    by_test : (b : Bool) → is_full_step step ≡ b → b ≡ false
+    by_test true e = absurd (true≢false (sym (starts_asks (asks_for step) a) ∙ (full_quiet step e).quiet))
+    by_test false e = refl
 
 pub full_there : (step : Step) → is_full_step step ≡ is_there (way_of step)
 full_there step =
@@ -240,55 +240,55 @@ StandsAt n s h =
 -- one that hands out nothing and is no answer to the request to start
 module _ (n : Network) (e : Seen) (s : OwnHistory) (t : ticked e ≡ false) (a : (c : ℕ) → asked_to_start c (e ∷ s) ≡ asked_to_start c s)
     (r : (c : ℕ) → member c (controllers_of n) ≡ true → runs c (e ∷ s) ≡ runs c s) where
-  first-same : first_running n (e ∷ s) ≡ first_running n s
-  first-same = first-no-tick n e s t
+  first_same : first_running n (e ∷ s) ≡ first_running n s
+  first_same = first_no_tick n e s t
 
-  ticks-same : tally ticked (e ∷ s) ≡ tally ticked s
+  ticks_same : tally ticked (e ∷ s) ≡ tally ticked s
   unfolding tally
-  ticks-same = rw t refl
+  ticks_same = rw t refl
 
-  running-same : (x : Bool) → Running n s x → Running n (e ∷ s) x
-  running-same x i = record { all = λ c m. r c m ∙ i.all c m; soon = rw first-same i.soon }
+  running_same : (x : Bool) → Running n s x → Running n (e ∷ s) x
+  running_same x i = record { all = λ c m. r c m ∙ i.all c m; soon = rw first_same i.soon }
 
-  away-same : (d : ℕ) → Away n s d → Away n (e ∷ s) d
-  away-same d i = record { none = first-same ∙ i.none; delay = i.delay; unasked = λ c m. a c ∙ i.unasked c m }
+  away_same : (d : ℕ) → Away n s d → Away n (e ∷ s) d
+  away_same d i = record { none = first_same ∙ i.none; delay = i.delay; unasked = λ c m. a c ∙ i.unasked c m }
 
   pub stands_same : (way : Way) (asked : Bool) (answers : List Heard) (count d w : ℕ) (x : Bool)
       → Stands n way asked answers count s d w x → Stands n way asked answers count (e ∷ s) d w x
-  stands_same away asked answers count d w x i = (away-same d i.0, i.1)
-  stands_same stopping asked answers count d w x i = (away-same d i.0, i.1, λ z. rw ticks-same (i.2 z))
+  stands_same away asked answers count d w x i = (away_same d i.0, i.1)
+  stands_same stopping asked answers count d w x i = (away_same d i.0, i.1, λ z. rw ticks_same (i.2 z))
   stands_same (starting cause) asked answers count d w x i = record {
-    none = first-same ∙ i.none;
+    none = first_same ∙ i.none;
     delay = i.delay;
     why = i.why;
-    late = rw ticks-same i.late;
-    sent = i.sent ∙ ap (ltb 0) (sym ticks-same);
+    late = rw ticks_same i.late;
+    sent = i.sent ∙ ap (ltb 0) (sym ticks_same);
     requested = λ c m. a c ∙ i.requested c m;
     answered = λ c m. r c m ∙ i.answered c m;
   }
-  stands_same (delayed ticks) asked answers count d w x i = (running-same x i.0, i.1, rw (first-same, ticks-same) i.2, i.3)
-  stands_same there asked answers count d w x i = (running-same x i.0, rw (first-same, ticks-same) i.1, i.2)
-  stands_same silenced asked answers count d w x i = (running-same x i.0, rw (first-same, ticks-same) i.1, i.2)
+  stands_same (delayed ticks) asked answers count d w x i = (running_same x i.0, i.1, rw (first_same, ticks_same) i.2, i.3)
+  stands_same there asked answers count d w x i = (running_same x i.0, rw (first_same, ticks_same) i.1, i.2)
+  stands_same silenced asked answers count d w x i = (running_same x i.0, rw (first_same, ticks_same) i.1, i.2)
 
 -- an answer that is taken is one to the request to start exactly in a step that asks that, and the step has asked
 taken_means : (s : State) (mode : ℕ) → takes_report s (Report.Controller mode) ≡ true
     → (s.asked ≡ true) × (asks_to_start (asks_for s.step) ≡ eqb 1 mode)
 unfolding takes_report
-taken_means s mode t = by-test s.asked (asks_for s.step) t
+taken_means s mode t = by_test s.asked (asks_for s.step) t
   where
     other : (k : ℕ) → eqb 1 k ≡ false → eqb k mode ≡ true → false ≡ eqb 1 mode
     other k f e = sym f ∙ ap (eqb 1) (eqb-true k mode e)
 
-    by-test : (asked : Bool) (ask : Ask) → cond asked (awaits ask (Report.Controller mode)) false ≡ true
+    by_test : (asked : Bool) (ask : Ask) → cond asked (awaits ask (Report.Controller mode)) false ≡ true
         → (asked ≡ true) × (asks_to_start ask ≡ eqb 1 mode)
-    by-test false ask e = absurd (false≢true e)
-    by-test true Ask.Nothing e = absurd (false≢true e)
-    by-test true (Ask.Controllers ControllerMode.Stopped) e = (refl, other 0 refl e)
-    by-test true (Ask.Controllers ControllerMode.Started) e = (refl, sym e)
-    by-test true (Ask.Controllers ControllerMode.Sleep) e = (refl, other 2 refl e)
-    by-test true (Ask.Transceiver mode') e = absurd (false≢true e)
-    by-test true Ask.ClearWake e = absurd (false≢true e)
-    by-test true Ask.CheckWake e = absurd (false≢true e)
+    by_test false ask e = absurd (false≢true e)
+    by_test true Ask.Nothing e = absurd (false≢true e)
+    by_test true (Ask.Controllers ControllerMode.Stopped) e = (refl, other 0 refl e)
+    by_test true (Ask.Controllers ControllerMode.Started) e = (refl, sym e)
+    by_test true (Ask.Controllers ControllerMode.Sleep) e = (refl, other 2 refl e)
+    by_test true (Ask.Transceiver mode') e = absurd (false≢true e)
+    by_test true Ask.ClearWake e = absurd (false≢true e)
+    by_test true Ask.CheckWake e = absurd (false≢true e)
 
 module _ (n : Network) (g : InRange n) (s : State) (k : Kept n s) (c mode ok : ℕ) (m : member c (controllers_of n) ≡ true) (l : ltb 1 ok ≡ false)
     (q : OwnHistory) where
@@ -296,48 +296,48 @@ module _ (n : Network) (g : InRange n) (s : State) (k : Kept n s) (c mode ok : �
   answering = seen (an_answer c mode ok) 0 []
 
   -- an answer on another mode changes nothing
-  other-mode : eqb 1 mode ≡ false → (d : ℕ) → runs d (answering ∷ q) ≡ runs d q
+  other_mode : eqb 1 mode ≡ false → (d : ℕ) → runs d (answering ∷ q) ≡ runs d q
   unfolding runs
-  other-mode f d = rw (f, and-false (eqb d c)) refl
+  other_mode f d = rw (f, and-false (eqb d c)) refl
 
   -- an answer to the request to start says whether its controller runs, and nothing of the others
-  own-answer : (value : ℕ) → ltb 1 value ≡ false → eqb 1 mode ≡ true → asked_to_start c q ≡ true
+  own_answer : (value : ℕ) → ltb 1 value ≡ false → eqb 1 mode ≡ true → asked_to_start c q ≡ true
       → runs c (seen (an_answer c mode value) 0 [] ∷ q) ≡ is_okay (heard (answer_of (eqb value 1)))
   unfolding runs
-  own-answer zero v e a = rw (eqb_same c, e) refl
-  own-answer (suc zero) v e a = rw (eqb_same c, e) a
-  own-answer (suc (suc value)) v e a = absurd (omega (arith, ltb-false 1 (suc (suc value)) v))
+  own_answer zero v e a = rw (eqb_same c, e) refl
+  own_answer (suc zero) v e a = rw (eqb_same c, e) a
+  own_answer (suc (suc value)) v e a = absurd (omega (arith, ltb-false 1 (suc (suc value)) v))
 
-  other-answer : (d : ℕ) → eqb d c ≡ false → runs d (answering ∷ q) ≡ runs d q
+  other_answer : (d : ℕ) → eqb d c ≡ false → runs d (answering ∷ q) ≡ runs d q
   unfolding runs
-  other-answer d e = rw e refl
+  other_answer d e = rw e refl
 
-  heard-starts : (cause : Cause) (d : ℕ) (x : Bool) → s.asked ≡ true → eqb 1 mode ≡ true
+  heard_starts : (cause : Cause) (d : ℕ) (x : Bool) → s.asked ≡ true → eqb 1 mode ≡ true
       → Starts n cause s.asked s.answers s.count q d x
       → Starts n cause s.asked (heard_state n s c ok).answers s.count (answering ∷ q) d x
   unfolding any tally
-  heard-starts cause d x a e i = record {
-    none = first-no-tick n answering q refl ∙ i.none;
+  heard_starts cause d x a e i = record {
+    none = first_no_tick n answering q refl ∙ i.none;
     delay = i.delay;
     why = i.why;
     late = i.late;
     sent = i.sent;
     requested = i.requested;
-    answered = λ y p. by-test y p (eqb y c) refl;
+    answered = λ y p. by_test y p (eqb y c) refl;
   }
     where
-      by-test : (x : ℕ) → member x (controllers_of n) ≡ true → (b : Bool) → eqb x c ≡ b
+      by_test : (x : ℕ) → member x (controllers_of n) ≡ true → (b : Bool) → eqb x c ≡ b
           → runs x (answering ∷ q) ≡ said_okay n (heard_state n s c ok).answers x
-      by-test x p true f =
+      by_test x p true f =
           subst (λ (x : ℕ). runs x (answering ∷ q) ≡ said_okay n (heard_state n s c ok).answers x) (sym (eqb-true x c f))
-          (own-answer ok l e (i.requested c m ∙ a) ∙ sym (okay_own n s g k c (heard (answer_of (eqb ok 1))) m))
-      by-test x p false f = other-answer x f ∙ i.answered x p ∙ sym (okay_other n s.answers x c (heard (answer_of (eqb ok 1))) f p m)
+          (own_answer ok l e (i.requested c m ∙ a) ∙ sym (okay_own n s g k c (heard (answer_of (eqb ok 1))) m))
+      by_test x p false f = other_answer x f ∙ i.answered x p ∙ sym (okay_other n s.answers x c (heard (answer_of (eqb ok 1))) f p m)
 
-  pub heard-stands : takes_report s (Report.Controller mode) ≡ true → (d w : ℕ) (x : Bool)
+  pub heard_stands : takes_report s (Report.Controller mode) ≡ true → (d w : ℕ) (x : Bool)
       → Stands n (way_of s.step) s.asked s.answers s.count q d w x
       → Stands n (way_of s.step) s.asked (heard_state n s c ok).answers s.count (answering ∷ q) d w x
   unfolding any
-  heard-stands t d w x = by-test (asks_to_start (asks_for s.step)) (taken_means s mode t).1
+  heard_stands t d w x = by_test (asks_to_start (asks_for s.step)) (taken_means s mode t).1
     where
       phase : Phase
       phase = phase_of s.step
@@ -345,13 +345,13 @@ module _ (n : Network) (g : InRange n) (s : State) (k : Kept n s) (c mode ok : �
       timer : Timer
       timer = timer_of s.step
 
-      by-test : (b : Bool) → b ≡ eqb 1 mode → Stands n (cond b (starting (cause_in phase)) (way_in phase timer))
+      by_test : (b : Bool) → b ≡ eqb 1 mode → Stands n (cond b (starting (cause_in phase)) (way_in phase timer))
           s.asked s.answers s.count q d w x → Stands n (cond b (starting (cause_in phase)) (way_in phase timer))
           s.asked (heard_state n s c ok).answers s.count (answering ∷ q) d w x
-      by-test true e i = heard-starts (cause_in phase) d x (taken_means s mode t).0 (sym e) i
-      by-test false e i =
+      by_test true e i = heard_starts (cause_in phase) d x (taken_means s mode t).0 (sym e) i
+      by_test false e i =
           answers_aside n phase timer s.asked s.answers _ s.count (answering ∷ q) d w x
-          (stands_same n answering q refl (λ y. refl) (λ y p. other-mode (sym e) y) (way_in phase timer) s.asked s.answers s.count d w x i)
+          (stands_same n answering q refl (λ y. refl) (λ y p. other_mode (sym e) y) (way_in phase timer) s.asked s.answers s.count d w x i)
 
 -- ---- bus_offs and stalls
 -- nothing was asked since, and no answer is kept
@@ -362,16 +362,16 @@ anew n cause count d z e = record {
   none = refl;
   delay = e;
   why = sym z;
-  late = by-cause cause z;
+  late = by_cause cause z;
   sent = refl;
   requested = λ c m. refl;
   answered = λ c m. sym (no_answer_yet n c);
 }
   where
-    by-cause : (cause : Cause) → is_stall_cause cause ≡ false → Late cause 0
-    by-cause coming_up e = tt
-    by-cause bus_off e = tt
-    by-cause stall e = absurd (true≢false e)
+    by_cause : (cause : Cause) → is_stall_cause cause ≡ false → Late cause 0
+    by_cause coming_up e = tt
+    by_cause bus_off e = tt
+    by_cause stall e = absurd (true≢false e)
 
 pub nothing_since : (n : Network) → Away n [] 0
 unfolding first_running any

@@ -4,7 +4,7 @@ use Rattle.lists.proofs.Basics.{length, take, set}
 use lib.Seq.{take-nil}
 use Rattle.lists.specs.Lists.{first, padded}
 use Rattle.lists.proofs.Any.{first_below}
-use Rattle.lists.proofs.Parts.{padded-count, padded-store}
+use Rattle.lists.proofs.Parts.{padded_count, padded_store}
 use Rattle.records.specs.declared.Mode.{Mode}
 use Rattle.settings.specs.declared.Network.{Network}
 use Rattle.settings.specs.Settings.{controllers_of, member}
@@ -16,7 +16,7 @@ use Rattle.steps.specs.declared.Move.{Move}
 use Rattle.steps.specs.declared.Ask.{Ask}
 use Rattle.steps.specs.Steps.{full_phase, asks_for, is_up, is_full_step, is_ask, is_asking}
 use Rattle.steps.specs.Decision.{decision}
-use Rattle.steps.specs.After.{first_down, step_after}
+use Rattle.steps.specs.After.{first_down, step_after_lem}
 use Rattle.network.specs.declared.LastAnswer.{LastAnswer}
 use Rattle.network.specs.declared.Heard.{Heard}
 use Rattle.network.specs.declared.Hit.{Hit}
@@ -42,7 +42,7 @@ blank_slots (suc (suc (suc (suc k)))) = rw (take-nil k) refl
 -- ---- told: full exactly in steps 4 and 5
 abbrev ToldFits : Step → Mode → Move → Type 0
 ToldFits step wanted m =
-    (told : Mode) (partial : Bool) → is_full_mode told ≡ is_full_step step → is_full_mode (told_after m told) ≡ is_full_step (step_after m step partial)
+    (told : Mode) (partial : Bool) → is_full_mode told ≡ is_full_step step → is_full_mode (told_after m told) ≡ is_full_step (step_after_lem m step partial)
 
 pub lowered_not_full : (told : Mode) → is_full_mode (lowered told) ≡ false
 lowered_not_full Mode.No = refl
@@ -71,7 +71,7 @@ told_fits done = record {
 -- ---- wanted: silent only in up steps
 abbrev WantedFits : Step → Mode → Move → Type 0
 WantedFits step wanted m =
-    (partial : Bool) → (wanted ≡ Mode.Silent → is_up step ≡ true) → wanted ≡ Mode.Silent → is_up (step_after m step partial) ≡ true
+    (partial : Bool) → (wanted ≡ Mode.Silent → is_up step ≡ true) → wanted ≡ Mode.Silent → is_up (step_after_lem m step partial) ≡ true
 
 not_silent : {A : Type 0} (f : Mode.No ≡ Mode.Silent) → A
 not_silent f = absurd (let z : ◌≡◌ {A = ℕ} 0 1 = cc in omega arith)
@@ -97,7 +97,7 @@ abbrev FormFits : Step → Mode → Move → Type 0
 FormFits step wanted m =
     (partial asked reported : Bool) (answers : List Heard)
     → (is_asking step ≡ false → (asked ≡ false) × (answers ≡ blank_answers) × (reported ≡ false))
-    → is_asking (step_after m step partial) ≡ false
+    → is_asking (step_after_lem m step partial) ≡ false
     → (asks_after m asked ≡ false) × (cond (keeps_answers m) answers blank_answers ≡ blank_answers) × (cond (keeps_answers m) reported false ≡ false)
 
 first_down_asks : (partial : Bool) → is_asking (first_down partial) ≡ true
@@ -206,11 +206,11 @@ awaited_asks Ask.CheckWake report e = refl
 
 taken_asks : (s : State) (report : Report) → takes_report s report ≡ true → is_asking s.step ≡ true
 unfolding takes_report
-taken_asks s report e = by-test s.asked e
+taken_asks s report e = by_test s.asked e
   where
-    by-test : (b : Bool) → cond b (awaits (asks_for s.step) report) false ≡ true → is_asking s.step ≡ true
-    by-test true f = awaited_asks (asks_for s.step) report f
-    by-test false f = absurd (false≢true f)
+    by_test : (b : Bool) → cond b (awaits (asks_for s.step) report) false ≡ true → is_asking s.step ≡ true
+    by_test true f = awaited_asks (asks_for s.step) report f
+    by_test false f = absurd (false≢true f)
 
 pub report_kept : (n : Network) (s : State) (report : Report) → takes_report s report ≡ true → Kept n s → Kept n (after_report s)
 unfolding after_report
@@ -230,7 +230,7 @@ slot_used : (n : Network) (s : State) (id : ℕ) →
     InRange n → Kept n s → member id (controllers_of n) ≡ true → first (λ (x : ℕ). eqb x id) (controllers_of n) < length (heard_of n s)
 slot_used n s id g k e =
     let c = controllers_counted n g in
-    let h : length (heard_of n s) ≡ n.count = padded-count 4 (heard LastAnswer.Pending) s.answers n.count g.few_controllers k.slots in
+    let h : length (heard_of n s) ≡ n.count = padded_count 4 (heard LastAnswer.Pending) s.answers n.count g.few_controllers k.slots in
     let f = first_below (λ (x : ℕ). eqb x id) (controllers_of n) e in
     omega arith
 
@@ -246,7 +246,7 @@ answer_by n s id mode ok true g e k f =
       asked = k.asked;
       answers = λ d. absurd (true≢false (sym a ∙ d));
       reported = k.reported;
-      slots = padded-store 4 (heard LastAnswer.Pending) (heard (answer_of ok)) s.answers n.count _ k.slots (slot_used n s id g k f);
+      slots = padded_store 4 (heard LastAnswer.Pending) (heard (answer_of ok)) s.answers n.count _ k.slots (slot_used n s id g k f);
     }
 
 pub answer_kept : (n : Network) (s : State) (id mode : ℕ) (ok : Bool) →

@@ -12,7 +12,7 @@ use Rattle.steps.specs.declared.Outfit.TheVariants.{Bare, Fitted, Partial}
 use Rattle.steps.specs.declared.Move.{Move}
 use Rattle.steps.specs.declared.Move.TheVariants.{Stay, AskAgain, Count, EnterFull, EnterSilent, Pass, Wait, GoDown, EnterNoCommunication, Enter}
 use Rattle.steps.specs.Steps.{phase_of, asks_for, is_on, is_up, is_full_step, is_asking, asks_to_start}
-use Rattle.steps.specs.Decision.{by_mode, by_partial, by_transceiver, when_done, rule_of, decision}
+use Rattle.steps.specs.Decision.{by_mode_lem, by_partial_lem, by_transceiver, when_done, rule_of, decision}
 use Rattle.network_theorems.specs.Kept.{Quiet, Unsaid}
 
 -- P step wanted move, for each kind of move, with what is known of the steps that it leaves and enters, and where a step is left because it is
@@ -47,45 +47,45 @@ module _ (P : Step → Mode → Move → Type 0) (done : Bool) (by : ByMove done
   either false x y p q = q
 
   by_mode_lem : {step : Step} {wanted : Mode} (mode : Mode) (x y z : Move) → P step wanted x → P step wanted y → P step wanted z
-      → P step wanted (by_mode mode x y z)
+      → P step wanted (by_mode_lem mode x y z)
   by_mode_lem Mode.No x y z p q r = p
   by_mode_lem Mode.Silent x y z p q r = q
   by_mode_lem Mode.Full x y z p q r = r
 
   by_partial_lem : {step : Step} {wanted : Mode} (outfit : Outfit) (x y : Move) → P step wanted x → P step wanted y
-      → P step wanted (by_partial outfit x y)
+      → P step wanted (by_partial_lem outfit x y)
   by_partial_lem Bare x y p q = p
   by_partial_lem Fitted x y p q = p
   by_partial_lem Partial x y p q = q
 
-  by-transceiver : {step : Step} {wanted : Mode} (outfit : Outfit) (x y : Move) → P step wanted x → P step wanted y
+  by_transceiver_lem : {step : Step} {wanted : Mode} (outfit : Outfit) (x y : Move) → P step wanted x → P step wanted y
       → P step wanted (by_transceiver outfit x y)
-  by-transceiver Bare x y p q = p
-  by-transceiver Fitted x y p q = q
-  by-transceiver Partial x y p q = q
+  by_transceiver_lem Bare x y p q = p
+  by_transceiver_lem Fitted x y p q = q
+  by_transceiver_lem Partial x y p q = q
 
-  when-done : (step : Step) (wanted : Mode) (x : Move) → is_asking step ≡ true → (done ≡ true → P step wanted x) → P step wanted (when_done done x)
-  when-done step wanted x e p = by-test done refl
+  when_done_lem : (step : Step) (wanted : Mode) (x : Move) → is_asking step ≡ true → (done ≡ true → P step wanted x) → P step wanted (when_done done x)
+  when_done_lem step wanted x e p = by_test done refl
     where
-      by-test : (test : Bool) → done ≡ test → P step wanted (when_done test x)
-      by-test true d = p d
-      by-test false d = by.asks_again step wanted e
+      by_test : (test : Bool) → done ≡ test → P step wanted (when_done test x)
+      by_test true d = p d
+      by_test false d = by.asks_again step wanted e
 
   -- ---- the rules
   ruled : (step : Step) (wanted : Mode) (refused reached : Bool) (outfit : Outfit) → P step wanted (rule_of step wanted done refused reached outfit)
   ruled NoCommunication wanted refused reached outfit =
       by_mode_lem wanted _ _ _ (by.stays _ _) (by.stays _ _)
-      (by-transceiver outfit _ _ (by.enters _ _ _ refl refl refl) (by.enters _ _ _ refl refl refl))
-  ruled TransceiverNormal wanted refused reached outfit = when-done _ _ _ refl (λ d. by.enters _ _ _ refl refl refl)
-  ruled ControllersStopped wanted refused reached outfit = when-done _ _ _ refl (λ d. by.enters _ _ _ refl refl refl)
-  ruled ControllersStarted wanted refused reached outfit = when-done _ _ _ refl (λ d. by.starts _ _ d refl)
+      (by_transceiver_lem outfit _ _ (by.enters _ _ _ refl refl refl) (by.enters _ _ _ refl refl refl))
+  ruled TransceiverNormal wanted refused reached outfit = when_done_lem _ _ _ refl (λ d. by.enters _ _ _ refl refl refl)
+  ruled ControllersStopped wanted refused reached outfit = when_done_lem _ _ _ refl (λ d. by.enters _ _ _ refl refl refl)
+  ruled ControllersStarted wanted refused reached outfit = when_done_lem _ _ _ refl (λ d. by.starts _ _ d refl)
   ruled (Checking t) wanted refused reached outfit =
       let quiet : Quiet (Checking t) = record { up = refl; quiet = refl } in
       let checked = either reached _ _ (by.passes _ wanted quiet refl) (by.counts _ _ wanted quiet (record { up = refl; quiet = refl }) refl) in
       by_mode_lem wanted _ _ _ checked (by.silences _ _ refl) checked
   ruled Full wanted refused reached outfit =
       by_mode_lem wanted _ _ _ (by.stays _ _) (by.silences _ _ refl) (by.stays _ _)
-  ruled Restarting wanted refused reached outfit = when-done _ _ _ refl (λ d. by.waits _ _ d refl refl)
+  ruled Restarting wanted refused reached outfit = when_done_lem _ _ _ refl (λ d. by.waits _ _ d refl refl)
   ruled (Waiting t) wanted refused reached outfit =
       let quiet : Quiet (Waiting t) = record { up = refl; quiet = refl } in
       let unsaid : Unsaid (Waiting t) = record { up = refl; quiet = refl; unsaid = refl } in
@@ -95,22 +95,22 @@ module _ (P : Step → Mode → Move → Type 0) (done : Bool) (by : ByMove done
   ruled Silent wanted refused reached outfit =
       by_mode_lem wanted _ _ _ (by.stays _ _) (by.stays _ _) (by.fills _ _ (record { up = refl; quiet = refl; unsaid = refl }))
   ruled ClearWake wanted refused reached outfit =
-      when-done _ _ _ refl (λ d. by_partial_lem outfit _ _ (by.stays _ _) (by.enters _ _ _ refl refl refl))
+      when_done_lem _ _ _ refl (λ d. by_partial_lem outfit _ _ (by.stays _ _) (by.enters _ _ _ refl refl refl))
   ruled DownStopped wanted refused reached outfit =
-      when-done _ _ _ refl (λ d. by_partial_lem outfit _ _ (by.enters _ _ _ refl refl refl) (by.enters _ _ _ refl refl refl))
+      when_done_lem _ _ _ refl (λ d. by_partial_lem outfit _ _ (by.enters _ _ _ refl refl refl) (by.enters _ _ _ refl refl refl))
   ruled TransceiverStandby wanted refused reached outfit =
-      when-done _ _ _ refl (λ d. by_partial_lem outfit _ _ (by.ends _ _ refl) (by.enters _ _ _ refl refl refl))
+      when_done_lem _ _ _ refl (λ d. by_partial_lem outfit _ _ (by.ends _ _ refl) (by.enters _ _ _ refl refl refl))
   ruled ControllersSleep wanted refused reached outfit =
       by_partial_lem outfit _ _
-      (when-done _ _ _ refl (λ d. by-transceiver outfit _ _ (by.ends _ _ refl) (by.enters _ _ _ refl refl refl)))
-      (either refused _ _ (by.enters _ _ _ refl refl refl) (when-done _ _ _ refl (λ d. by.enters _ _ _ refl refl refl)))
+      (when_done_lem _ _ _ refl (λ d. by_transceiver_lem outfit _ _ (by.ends _ _ refl) (by.enters _ _ _ refl refl refl)))
+      (either refused _ _ (by.enters _ _ _ refl refl refl) (when_done_lem _ _ _ refl (λ d. by.enters _ _ _ refl refl refl)))
   ruled CheckWake wanted refused reached outfit =
-      when-done _ _ _ refl (λ d. by_partial_lem outfit _ _ (by.stays _ _) (by.ends _ _ refl))
+      when_done_lem _ _ _ refl (λ d. by_partial_lem outfit _ _ (by.stays _ _) (by.ends _ _ refl))
   ruled CheckWakeAgain wanted refused reached outfit =
-      when-done _ _ _ refl (λ d. by_partial_lem outfit _ _ (by.stays _ _) (by.enters _ _ _ refl refl refl))
-  ruled ResetStopped wanted refused reached outfit = when-done _ _ _ refl (λ d. by.enters _ _ _ refl refl refl)
+      when_done_lem _ _ _ refl (λ d. by_partial_lem outfit _ _ (by.stays _ _) (by.enters _ _ _ refl refl refl))
+  ruled ResetStopped wanted refused reached outfit = when_done_lem _ _ _ refl (λ d. by.enters _ _ _ refl refl refl)
   ruled ResetStarted wanted refused reached outfit =
-      when-done _ _ _ refl (λ d. by_mode_lem wanted _ _ _ (by.starts _ _ d refl) (by.silences _ _ refl) (by.starts _ _ d refl))
+      when_done_lem _ _ _ refl (λ d. by_mode_lem wanted _ _ _ (by.starts _ _ d refl) (by.silences _ _ refl) (by.starts _ _ d refl))
 
   -- ---- the decision
   first_down_lem : (step : Step) (test : Bool) (x : Move) → is_on step ≡ test → P step Mode.No x → P step Mode.No (cond test GoDown x)

@@ -73,11 +73,11 @@ by_stall s Q full not = split Q (is_full_step s.step) full not
 
 module _ (s : State) (Q : Part → Type 0) where
   -- a request: silent is stored only where the network is up, and else refused by what it is about
-  pub by-request : (number : ℕ) → ((mode : Mode) → number ≡ mode_number mode → (mode ≡ Mode.Silent → is_up s.step ≡ true) → Q (taken (wants s mode)))
+  pub by_request : (number : ℕ) → ((mode : Mode) → number ≡ mode_number mode → (mode ≡ Mode.Silent → is_up s.step ≡ true) → Q (taken (wants s mode)))
       → Q (declined s Refusal.Asleep) → Q (declined s Refusal.ComingUp) → Q (declined s Refusal.GoingDown) → Q (declined s Refusal.OutOfRange)
       → Q (request_part s number)
   unfolding request_part wanted_part
-  by-request number may asleep rising falling out =
+  by_request number may asleep rising falling out =
       let Named : NamedMode → Type 0 = λ named. Q (by_named named (wanted_part s) (declined s Refusal.OutOfRange)) in
       split Named (eqb number 0) (λ e. may Mode.No (eqb-true number 0 e) (λ f. absurd (let z : ◌≡◌ {A = ℕ} 0 1 = cc in omega arith)))
       (λ _. split Named (eqb number 1)
@@ -87,17 +87,17 @@ module _ (s : State) (Q : Part → Type 0) where
       (λ _. out)))
 
   -- what is reported
-  pub by-report : (report : Report) (after : State) → (takes_report s report ≡ true → Q (taken after)) → (out_of_range_part report ≡ true →
+  pub by_report : (report : Report) (after : State) → (takes_report s report ≡ true → Q (taken after)) → (out_of_range_part report ≡ true →
       Q (declined s Refusal.OutOfRange)) → (takes_report s report ≡ false → Q (declined s Refusal.NotTaken)) → Q (taken_part s report after)
   unfolding taken_part
-  by-report report after takes out not = split Q (out_of_range_part report) out (λ _. split Q (takes_report s report) takes not)
+  by_report report after takes out not = split Q (out_of_range_part report) out (λ _. split Q (takes_report s report) takes not)
 
   -- an answer of a controller
   pub by_answer : (n : Network) (c mode ok : ℕ) → (ltb 1 ok ≡ false → takes_report s (Report.Controller mode) ≡ true → Q (taken (after_answer n s c
       (eqb ok 1)))) → (ltb 1 ok ≡ true → Q (declined s Refusal.OutOfRange)) → (ltb 2 mode ≡ true → Q (declined s Refusal.OutOfRange)) →
       (takes_report s (Report.Controller mode) ≡ false → Q (declined s Refusal.NotTaken)) → Q (answer_part n s c mode ok)
   unfolding answer_part
-  by_answer n c mode ok takes out-ok out-mode not = split Q (ltb 1 ok) out-ok (λ e. by-report (Report.Controller mode) _ (takes e) out-mode not)
+  by_answer n c mode ok takes out-ok out-mode not = split Q (ltb 1 ok) out-ok (λ e. by_report (Report.Controller mode) _ (takes e) out-mode not)
 
 -- ---- the number of what a network answers to a request
 -- the reply is that of the request
@@ -142,10 +142,10 @@ refused_stays n s (an_answer c mode ok) e =
     by_answer s (λ part. is_taken part.reply ≡ false → (part.state ≡ s) × None) n c mode ok
     (λ _ _ e. absurd (true≢false e)) (λ _ _. (refl, refl)) (λ _ _. (refl, refl)) (λ _ _. (refl, refl)) e
 refused_stays n s (a_request mode) e =
-    by-request s (λ part. is_taken part.reply ≡ false → (part.state ≡ s) × None) mode
+    by_request s (λ part. is_taken part.reply ≡ false → (part.state ≡ s) × None) mode
     (λ _ _ _ e. absurd (true≢false e)) (λ _. (refl, refl)) (λ _. (refl, refl)) (λ _. (refl, refl)) (λ _. (refl, refl)) e
 refused_stays n s (a_report report) e =
-    by-report s (λ part. is_taken part.reply ≡ false → (part.state ≡ s) × None) report _
+    by_report s (λ part. is_taken part.reply ≡ false → (part.state ≡ s) × None) report _
     (λ _ e. absurd (true≢false e)) (λ _ _. (refl, refl)) (λ _ _. (refl, refl)) e
 refused_stays n s nothing e = absurd (true≢false e)
 
@@ -157,8 +157,8 @@ part_kept n s g k a_bus_off = hit_kept n s (hit_of s.step) k
 part_kept n s g k a_stall = hit_kept n s (stall_of s.step) k
 part_kept n s g k (an_answer c mode ok) =
     by_answer s (λ part. Kept n part.state) n c mode ok (λ _ e. answer_kept n s c mode (eqb ok 1) g e k) (λ _. k) (λ _. k) (λ _. k)
-part_kept n s g k (a_request mode) = by-request s (λ part. Kept n part.state) mode (λ w _ may. want_kept n s w may k) k k k k
-part_kept n s g k (a_report report) = by-report s (λ part. Kept n part.state) report _ (λ e. report_kept n s report e k) (λ _. k) (λ _. k)
+part_kept n s g k (a_request mode) = by_request s (λ part. Kept n part.state) mode (λ w _ may. want_kept n s w may k) k k k k
+part_kept n s g k (a_report report) = by_report s (λ part. Kept n part.state) report _ (λ e. report_kept n s report e k) (λ _. k) (λ _. k)
 part_kept n s g k nothing = k
 
 -- every record names the network's own controllers, transceiver or handle

@@ -12,7 +12,7 @@ use Rattle.steps.specs.declared.Step.{Step}
 use Rattle.steps.specs.declared.Move.{Move}
 use Rattle.steps.specs.Steps.{is_full_step}
 use Rattle.handing.specs.Handing.{own_record}
-use Rattle.handing.proofs.Laws.{length_move, move-own, recovery-own, reset-own}
+use Rattle.handing.proofs.Laws.{length_move, move_own, recovery_own, reset_own}
 use Rattle.network.specs.declared.Hit.{Hit}
 use Rattle.network.specs.declared.State.{State}
 use Rattle.network.specs.State.{blank_answers}
@@ -32,14 +32,14 @@ tick_few n s g =
 -- every record of a tick names the network's own controllers, transceiver or handle
 pub tick_own : (n : Network) (s : State) → every (own_record n) (tick_records n s) ≡ true
 unfolding tick_records
-tick_own n s = move-own n s.step s.told (move_of n s)
+tick_own n s = move_own n s.step s.told (move_of n s)
 
 -- and so does every record of a bus_off_lem or a stall
 pub hit_own : (n : Network) (hit : Hit) → every (own_record n) (hit_records n hit) ≡ true
 unfolding hit_records every Rattle.lists.specs.Lists.any
-hit_own n Hit.Recover = recovery-own n
+hit_own n Hit.Recover = recovery_own n
 hit_own n Hit.Restart = refl
-hit_own n Hit.Reset = reset-own n
+hit_own n Hit.Reset = reset_own n
 hit_own n Hit.NotTaken = refl
 
 -- ---- told and wanted
@@ -73,15 +73,15 @@ delay_short n count h = rw (long_from n.relation n.threshold count, lt-leb (leas
 
 -- S27: the two relations part at the threshold, and nowhere else
 pub relations_part : (threshold count : ℕ) → is_long AtOrAbove threshold count ≡ is_long Above threshold count || eqb threshold count
-relations_part threshold count = by-test (ltb threshold count) refl
+relations_part threshold count = by_test (ltb threshold count) refl
   where
     at : (b : Bool) → eqb threshold count ≡ b → ltb threshold count ≡ false → leb threshold count ≡ b
     at true e l = le-leb threshold count (omega (arith, eqb-true threshold count e))
     at false e l = lt-leb threshold count (omega (arith, eqb-false threshold count e, ltb-false threshold count l))
 
-    by-test : (b : Bool) → ltb threshold count ≡ b → leb threshold count ≡ b || eqb threshold count
-    by-test true l = le-leb threshold count (omega (arith, ltb-true threshold count l))
-    by-test false l = at (eqb threshold count) refl l
+    by_test : (b : Bool) → ltb threshold count ≡ b → leb threshold count ≡ b || eqb threshold count
+    by_test true l = le-leb threshold count (omega (arith, ltb-true threshold count l))
+    by_test false l = at (eqb threshold count) refl l
 
 -- ---- answers
 -- N11: a step that is entered in order to ask has asked, and all answers are blank

@@ -8,7 +8,7 @@ use Rattle.steps.specs.declared.Outfit.{Outfit}
 use Rattle.steps.specs.declared.Move.{Move}
 use Rattle.steps.specs.Steps.{asks_for, timer_of, asks_to_sleep}
 use Rattle.steps.specs.Decision.{decision}
-use Rattle.steps.proofs.Laws.{only-sleep}
+use Rattle.steps.proofs.Laws.{only_sleep}
 use Rattle.handing.specs.Handing.{move_records}
 use Rattle.network.specs.declared.State.{State}
 use Rattle.network.specs.State.{heard_of}
@@ -20,20 +20,20 @@ use Rattle.network.specs.Moving.{after_move, tick_state, tick_records}
 module _ (n : Network) (s : State) (done refused reached : Bool) (timer : Timer) (delay : ℕ) (outfit : Outfit) (m : Move)
     (d : done ≡ is_done n s) (i : timer ≡ timer_of s.step) (t : delay ≡ delay_of n s.count) (r : reached ≡ reached_by timer n.ensure delay)
     (o : outfit ≡ outfit_of n.transceiver n.partial) where
-  pub move-refused : refused ≡ any is_refusal (heard_of n s) → m ≡ decision s.step s.wanted done refused reached outfit → m ≡ move_of n s
+  pub move_refused : refused ≡ any is_refusal (heard_of n s) → m ≡ decision s.step s.wanted done refused reached outfit → m ≡ move_of n s
   unfolding move_of
-  move-refused f e = e ∙ rw (r, d, i, t, o, f) refl
+  move_refused f e = e ∙ rw (r, d, i, t, o, f) refl
 
-  pub move-awake : asks_to_sleep (asks_for s.step) ≡ false → m ≡ decision s.step s.wanted done false reached outfit → m ≡ move_of n s
+  pub move_awake : asks_to_sleep (asks_for s.step) ≡ false → m ≡ decision s.step s.wanted done false reached outfit → m ≡ move_of n s
   unfolding move_of
-  move-awake f e =
-      e ∙ only-sleep s.wanted done (any is_refusal (heard_of n s)) reached outfit s.step f ∙ rw (r, d, i, t, o) refl
+  move_awake f e =
+      e ∙ only_sleep s.wanted done (any is_refusal (heard_of n s)) reached outfit s.step f ∙ rw (r, d, i, t, o) refl
 
 -- ---- tick_state and tick_records
 module _ (n : Network) (s : State) (m : Move) (e : m ≡ move_of n s) where
-  pub tick-room : {b : List ℕ} {k : ℕ} → Room b k (tick_records n s) → Room b k (move_records n s.step s.told m)
+  pub tick_room : {b : List ℕ} {k : ℕ} → Room b k (tick_records n s) → Room b k (move_records n s.step s.told m)
   unfolding tick_records
-  tick-room r = rw e r
+  tick_room r = rw e r
 
   pub tick_gives : {b b' : List ℕ} {k next : ℕ} (after : State) → after ≡ after_move n s m → Wrote b b' k next (move_records n s.step s.told m)
       → (after ≡ tick_state n s) × Wrote b b' k next (tick_records n s)

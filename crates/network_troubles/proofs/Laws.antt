@@ -14,13 +14,13 @@ use Rattle.network.specs.BusOff.{hit_by, hit_records}
 -- ---- hit_part and hit_records
 module _ (n : Network) (s : State) (trouble : Trouble) (hit : Hit) (e : hit ≡ hit_by trouble s.step) where
   -- room for what the step's hit hands out is room for the records of the hit
-  pub room-recover : {b : List ℕ} → hit ≡ Hit.Recover → Room b 0 (hit_records n (hit_by trouble s.step)) → Room b 0 (recovery n.handle)
+  pub room_recover : {b : List ℕ} → hit ≡ Hit.Recover → Room b 0 (hit_records n (hit_by trouble s.step)) → Room b 0 (recovery n.handle)
   unfolding hit_records
-  room-recover g r = rw (sym e, g) at r
+  room_recover g r = rw (sym e, g) at r
 
-  pub room-reset : {b : List ℕ} → hit ≡ Hit.Reset → Room b 0 (hit_records n (hit_by trouble s.step)) → Room b 0 (reset n.handle)
+  pub room_reset : {b : List ℕ} → hit ≡ Hit.Reset → Room b 0 (hit_records n (hit_by trouble s.step)) → Room b 0 (reset n.handle)
   unfolding hit_records
-  room-reset g r = rw (sym e, g) at r
+  room_reset g r = rw (sym e, g) at r
 
   module _ (part : Part) (f : part ≡ hit_part s hit) where
     abbrev Struck : List ℕ → List ℕ → ℕ → Type 0
@@ -30,18 +30,18 @@ module _ (n : Network) (s : State) (trouble : Trouble) (hit : Hit) (e : hit ≡ 
     struck : {b b' : List ℕ} {next : ℕ} → Wrote b b' 0 next (hit_records n hit) → Struck b b' next
     struck w = (f ∙ ap (hit_part s) e, rw e at w)
 
-    pub struck-recover : {b b' : List ℕ} {next : ℕ} → hit ≡ Hit.Recover → Wrote b b' 0 next (recovery n.handle) → Struck b b' next
+    pub struck_recover : {b b' : List ℕ} {next : ℕ} → hit ≡ Hit.Recover → Wrote b b' 0 next (recovery n.handle) → Struck b b' next
     unfolding hit_records
-    struck-recover g w = struck (rw g w)
+    struck_recover g w = struck (rw g w)
 
-    pub struck-restart : (b : List ℕ) → hit ≡ Hit.Restart → Struck b b 0
+    pub struck_restart : (b : List ℕ) → hit ≡ Hit.Restart → Struck b b 0
     unfolding hit_records
-    struck-restart b g = struck (rw g (wrote_none b 0))
+    struck_restart b g = struck (rw g (wrote_none b 0))
 
-    pub struck-reset : {b b' : List ℕ} {next : ℕ} → hit ≡ Hit.Reset → Wrote b b' 0 next (reset n.handle) → Struck b b' next
+    pub struck_reset : {b b' : List ℕ} {next : ℕ} → hit ≡ Hit.Reset → Wrote b b' 0 next (reset n.handle) → Struck b b' next
     unfolding hit_records
-    struck-reset g w = struck (rw g w)
+    struck_reset g w = struck (rw g w)
 
-    pub struck-not-taken : (b : List ℕ) → hit ≡ Hit.NotTaken → Struck b b 0
+    pub struck_not_taken : (b : List ℕ) → hit ≡ Hit.NotTaken → Struck b b 0
     unfolding hit_records
-    struck-not-taken b g = struck (rw g (wrote_none b 0))
+    struck_not_taken b g = struck (rw g (wrote_none b 0))

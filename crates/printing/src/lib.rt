@@ -1,4 +1,6 @@
 // Printing for the programs that run stored cases: text, numbers and bytes, to standard output.
+#![tactic(auto)]
+
 use libc::STDOUT_FILENO;
 
 // The hexadecimal digits of a byte.

@@ -1,4 +1,6 @@
 // The manager's calls that name an id and hand out nothing: requests and polls from above, answers and reports from below.
+#![tactic(auto)]
+
 mod answering;
 mod requesting;
 

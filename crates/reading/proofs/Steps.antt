@@ -5,7 +5,7 @@ use Rattle.lists.proofs.Tests.{split}
 use Rattle.fields.specs.declared.Field.{Field}
 use Rattle.fields.specs.declared.Field.TheVariants.{Stub, Overrun, Whole}
 use Rattle.fields.specs.Fields.{front, row_at, next_of, ReadAt}
-use Rattle.fields.proofs.Laws.{Lies, front_lies, row_further, row_from, row_from_lem}
+use Rattle.fields.proofs.Laws.{Lies, front_lies, row_further, row_from_lem, row_from_lem}
 use Rattle.settings.specs.declared.Network.{Network}
 use Rattle.settings.specs.declared.Settings.{Settings}
 use Rattle.settings.specs.declared.Id.TheVariants.{OfNetwork}
@@ -43,15 +43,15 @@ Taken (Entry.Threshold x) = Unit
 Taken (Entry.Partial x) = Unit
 Taken (Entry.Relation x) = Unit
 
-taken_from : (s : List ℕ) (at : ℕ) (f : Field) → front at (drop at s) ≡ f → Taken (entry_at (row_from s at f)) → Further s at (next_of f at)
+taken_from : (s : List ℕ) (at : ℕ) (f : Field) → front at (drop at s) ≡ f → Taken (entry_at (row_from_lem s at f)) → Further s at (next_of f at)
 unfolding entry_at
 taken_from s at Field.End e t = absurd t
 taken_from s at (Stub tag) e t = absurd t
 taken_from s at (Overrun tag n) e t = absurd t
 taken_from s at (Whole tag n next) e t = let r = row_further s at tag n next e in (omega arith, r.2)
 
-sheet_from : (s : List ℕ) (at : ℕ) (S : Settings) (f : Field) → sheet (row_from s at f) S ≡ after_opening
-    (opens S (entry_at (row_from s at f))) S (entry_at (row_from s at f)) at (λ handle. network (row_at s (next_of f at)) S (begun handle) Named)
+sheet_from : (s : List ℕ) (at : ℕ) (S : Settings) (f : Field) → sheet (row_from_lem s at f) S ≡ after_opening
+    (opens S (entry_at (row_from_lem s at f))) S (entry_at (row_from_lem s at f)) at (λ handle. network (row_at s (next_of f at)) S (begun handle) Named)
     (λ more. sheet (row_at s (next_of f at)) more)
 unfolding sheet after_opening opens entry_at
 sheet_from s at S Field.End = refl
@@ -59,8 +59,8 @@ sheet_from s at S (Stub tag) = refl
 sheet_from s at S (Overrun tag n) = refl
 sheet_from s at S (Whole tag n next) = refl
 
-network_from : (s : List ℕ) (at : ℕ) (S : Settings) (N : Network) (P : Progress) (f : Field) → network (row_from s at f) S N P ≡
-    after_filling (fills S N P (entry_at (row_from s at f))).filling (fills S N P (entry_at (row_from s at f))).network (entry_at (row_from s at f)) at
+network_from : (s : List ℕ) (at : ℕ) (S : Settings) (N : Network) (P : Progress) (f : Field) → network (row_from_lem s at f) S N P ≡
+    after_filling (fills S N P (entry_at (row_from_lem s at f))).filling (fills S N P (entry_at (row_from_lem s at f))).network (entry_at (row_from_lem s at f)) at
     (λ m progress. network (row_at s (next_of f at)) S m progress) (λ m. sheet (row_at s (next_of f at)) (pushed S m))
 unfolding network after_filling fills entry_at
 network_from s at S N P Field.End = refl
@@ -124,40 +124,40 @@ place_near Empty entry at = omega arith
 module _ (s : List ℕ) (at : ℕ) (few : length s < 2 ^ 63) (S : Settings) (fault : Fault) where
   -- of what stands there
   abbrev Fits : Field → Type 0
-  Fits f = front at (drop at s) ≡ f → place_of fault (entry_at (row_from s at f)) at < 2 ^ 64
+  Fits f = front at (drop at s) ≡ f → place_of fault (entry_at (row_from_lem s at f)) at < 2 ^ 64
 
-  inside-fits : (entry : Entry) → at < length s → place_of fault entry at < 2 ^ 64
-  inside-fits entry inside = omega (arith, place_near fault entry at, inside, few)
+  inside_fits : (entry : Entry) → at < length s → place_of fault entry at < 2 ^ 64
+  inside_fits entry inside = omega (arith, place_near fault entry at, inside, few)
 
-  stub-fits : (tag : ℕ) → Fits (Stub tag)
-  stub-fits tag e =
+  stub_fits : (tag : ℕ) → Fits (Stub tag)
+  stub_fits tag e =
       let l : 0 < length (drop at s) = subst (Lies at (drop at s)) e (front_lies at (drop at s)) in
-      inside-fits (entry_at (row_from s at (Stub tag))) (omega (arith, length-drop at s, l))
+      inside_fits (entry_at (row_from_lem s at (Stub tag))) (omega (arith, length-drop at s, l))
 
-  overrun-fits : (tag n : ℕ) → Fits (Overrun tag n)
-  overrun-fits tag n e =
+  overrun_fits : (tag n : ℕ) → Fits (Overrun tag n)
+  overrun_fits tag n e =
       let l : 3 ≤ length (drop at s) = subst (Lies at (drop at s)) e (front_lies at (drop at s)) in
-      inside-fits (entry_at (row_from s at (Overrun tag n))) (omega (arith, length-drop at s, l))
+      inside_fits (entry_at (row_from_lem s at (Overrun tag n))) (omega (arith, length-drop at s, l))
 
-  whole-fits : (tag n next : ℕ) → Fits (Whole tag n next)
-  whole-fits tag n next e =
-      let r = row_further s at tag n next e in inside-fits (entry_at (row_from s at (Whole tag n next))) (omega arith)
+  whole_fits : (tag n next : ℕ) → Fits (Whole tag n next)
+  whole_fits tag n next e =
+      let r = row_further s at tag n next e in inside_fits (entry_at (row_from_lem s at (Whole tag n next))) (omega arith)
 
   -- the end is not refused where a network may begin
-  opened-fits : (f : Field) → Refuses fault ≡ opens S (entry_at (row_from s at f)) → Fits f
+  opened_fits : (f : Field) → Refuses fault ≡ opens S (entry_at (row_from_lem s at f)) → Fits f
   unfolding opens entry_at
-  opened-fits Field.End x = absurd (let z : ◌≡◌ {A = ℕ} 0 1 = cc in omega arith)
-  opened-fits (Stub tag) x = stub-fits tag
-  opened-fits (Overrun tag n) x = overrun-fits tag n
-  opened-fits (Whole tag n next) x = whole-fits tag n next
+  opened_fits Field.End x = absurd (let z : ◌≡◌ {A = ℕ} 0 1 = cc in omega arith)
+  opened_fits (Stub tag) x = stub_fits tag
+  opened_fits (Overrun tag n) x = overrun_fits tag n
+  opened_fits (Whole tag n next) x = whole_fits tag n next
 
   -- within a network it is, and told where it is
-  filled-fits : (N : Network) (P : Progress) (f : Field) → (fills S N P (entry_at (row_from s at f))).filling ≡ Filling.Refused fault → at < 2 ^ 64 → Fits f
+  filled_fits : (N : Network) (P : Progress) (f : Field) → (fills S N P (entry_at (row_from_lem s at f))).filling ≡ Filling.Refused fault → at < 2 ^ 64 → Fits f
   unfolding fills entry_at
-  filled-fits N P Field.End x fits = λ _. let same : Cut ≡ fault = cc in rw (← same) fits
-  filled-fits N P (Stub tag) x fits = stub-fits tag
-  filled-fits N P (Overrun tag n) x fits = overrun-fits tag n
-  filled-fits N P (Whole tag n next) x fits = whole-fits tag n next
+  filled_fits N P Field.End x fits = λ _. let same : Cut ≡ fault = cc in rw (← same) fits
+  filled_fits N P (Stub tag) x fits = stub_fits tag
+  filled_fits N P (Overrun tag n) x fits = overrun_fits tag n
+  filled_fits N P (Whole tag n next) x fits = whole_fits tag n next
 
 -- an entry that is not refused in a network
 filled_taken : (S : Settings) (N : Network) (P : Progress) (entry : Entry) →
@@ -175,34 +175,34 @@ filled_taken S N P (Entry.Relation x) h = tt
 
 -- as the code has it: the entry, what it does, and the next place
 module _ {s : List ℕ} {at : ℕ} {entry : Entry} {next : ℕ} (r : ReadAt entry_at s at entry next) (S : Settings) where
-  here : row_at s at ≡ row_from s at (front at (drop at s))
+  here : row_at s at ≡ row_from_lem s at (front at (drop at s))
   here = row_from_lem s at (front at (drop at s)) refl
 
   further : Taken entry → Further s at next
   further t = rw r.where_next (taken_from s at (front at (drop at s)) refl (rw (r.what, here) at t))
 
-  pub opens-fits : (fault : Fault) → Refuses fault ≡ opens S entry → length s < 2 ^ 63 → place_of fault entry at < 2 ^ 64
-  opens-fits fault e few = rw (r.what, here) (opened-fits s at few S fault (front at (drop at s)) (rw (r.what, here) at e) refl)
+  pub opens_fits : (fault : Fault) → Refuses fault ≡ opens S entry → length s < 2 ^ 63 → place_of fault entry at < 2 ^ 64
+  opens_fits fault e few = rw (r.what, here) (opened_fits s at few S fault (front at (drop at s)) (rw (r.what, here) at e) refl)
 
-  pub sheet-by : (o : Opening) → o ≡ opens S entry →
+  pub sheet_by : (o : Opening) → o ≡ opens S entry →
       sheet (row_at s at) S ≡ after_opening o S entry at (λ handle. network (row_at s next) S (begun handle) Named) (λ more. sheet (row_at s next) more)
-  sheet-by o e = rw (e, r.what, r.where_next, here) (sheet_from s at S (front at (drop at s)))
+  sheet_by o e = rw (e, r.what, r.where_next, here) (sheet_from s at S (front at (drop at s)))
 
-  pub begins-further : (o : Opening) (handle : ℕ) → o ≡ opens S entry → o ≡ Begins handle → Further s at next × (S.count < 8)
-  begins-further o handle e b = let m = rw (sym e ∙ b) at (started S entry) in (further m.0, m.1)
+  pub begins_further : (o : Opening) (handle : ℕ) → o ≡ opens S entry → o ≡ Begins handle → Further s at next × (S.count < 8)
+  begins_further o handle e b = let m = rw (sym e ∙ b) at (started S entry) in (further m.0, m.1)
 
-  pub amends-further : (o : Opening) → o ≡ opens S entry → o ≡ Amends → Further s at next × (0 < S.count)
-  amends-further o e b = let m = rw (sym e ∙ b) at (started S entry) in (further m.0, m.1)
+  pub amends_further : (o : Opening) → o ≡ opens S entry → o ≡ Amends → Further s at next × (0 < S.count)
+  amends_further o e b = let m = rw (sym e ∙ b) at (started S entry) in (further m.0, m.1)
 
   module _ (N : Network) (P : Progress) (m : Filled) (e : m ≡ fills S N P entry) where
-    pub network-by : network (row_at s at) S N P ≡
+    pub network_by : network (row_at s at) S N P ≡
         after_filling m.filling m.network entry at (λ n progress. network (row_at s next) S n progress) (λ n. sheet (row_at s next) (pushed S n))
-    network-by = rw (e, r.what, r.where_next, here) (network_from s at S N P (front at (drop at s)))
+    network_by = rw (e, r.what, r.where_next, here) (network_from s at S N P (front at (drop at s)))
 
-    pub fills-fits : (fault : Fault) → m.filling ≡ Filling.Refused fault → at < 2 ^ 64 → length s < 2 ^ 63 → place_of fault entry at < 2 ^ 64
-    fills-fits fault x fits few =
+    pub fills_fits : (fault : Fault) → m.filling ≡ Filling.Refused fault → at < 2 ^ 64 → length s < 2 ^ 63 → place_of fault entry at < 2 ^ 64
+    fills_fits fault x fits few =
         let filled : (fills S N P entry).filling ≡ Filling.Refused fault = sym (ap (λ (k : Filled). k.filling) e) ∙ x in
-        rw (r.what, here) (filled-fits s at few S fault N P (front at (drop at s)) (rw (r.what, here) at filled) fits refl)
+        rw (r.what, here) (filled_fits s at few S fault N P (front at (drop at s)) (rw (r.what, here) at filled) fits refl)
 
     pub fills_further : ((fault : Fault) → m.filling ≡ Filling.Refused fault → ⊥) → Further s at next
     fills_further h = further (filled_taken S N P entry (λ fault x. h fault (ap (λ (k : Filled). k.filling) e ∙ x)))

@@ -1,4 +1,6 @@
 // Reading a sheet, by two functions that call each other: one where a network may begin, one within a network.
+#![tactic(auto)]
+
 ghost use Rattle.std.specs.Prelude.{◌≡◌, ◌<◌};
 ghost use Rattle.fields.specs.Fields.{row_at};
 ghost use Rattle.sheet.specs.Reading.{sheet, network, read_from};

@@ -1,4 +1,6 @@
 // What reading a sheet is put together from: a refusal and its place, the end of the sheet, the settings with one network more or with field 07.
+#![tactic(auto)]
+
 ghost use Rattle.std.specs.Prelude.{◌≡◌, ◌<◌, ◌^◌};
 ghost use Rattle.sheet.specs.Reading.{pushed, amended, first_zero, number_in, place_of, refused_at, closed};
 

@@ -3,7 +3,7 @@ use Rattle.lists.proofs.Basics.{ℕ, zero, suc, ◌+◌, ◌*◌, ◌≤◌, ◌
 use Rattle.lists.proofs.Basics.{length-append, sets, length-sets, sets-eq, map, map-append, length-map, Bool, true, false, get_or-drop}
 use Rattle.lists.proofs.Basics.{drop-append_seam}
 use lib.Seq.{get_or-append-add}
-use Rattle.lists.proofs.Stores.{sets-append, run_more, length-within}
+use Rattle.lists.proofs.Stores.{sets_append, run_more, length_within}
 use Rattle.records.specs.declared.Record.{Record}
 use Rattle.records.specs.Records.{handed, bytes, records_at, turned}
 use Rattle.records.specs.Wrote.{stored, Wrote, Room, heeded}
@@ -27,7 +27,7 @@ pub stored_append : (l : List ℕ) (k : ℕ) (xs ys : List Record) → stored (s
 unfolding stored
 stored_append l k xs ys =
     let e : 3 * k + length (bytes xs) ≡ 3 * (k + length xs) = omega (arith, length_bytes xs) in
-    sym (ap (λ (b : List ℕ). sets l (3 * k) b) (bytes_append xs ys) ∙ sym (sets-append l (3 * k) (bytes xs) (bytes ys))
+    sym (ap (λ (b : List ℕ). sets l (3 * k) b) (bytes_append xs ys) ∙ sym (sets_append l (3 * k) (bytes xs) (bytes ys))
     ∙ ap (λ (i : ℕ). sets (sets l (3 * k) (bytes xs)) i (bytes ys)) e)
 
 pub length_stored : (l : List ℕ) (k : ℕ) (xs : List Record) → length (stored l k xs) ≡ length l
@@ -78,12 +78,12 @@ room_next {xs = xs} ys h p = record { fits = omega (arith, h.fits, length-append
 module _ {A : Type 0}
     (run : List A → List Record) (run-append : (l m : List A) → run (l ++ m) ≡ run l ++ run m) (l : List A) (i : ℕ) (d : A) (h : i < length l) where
   module _ {b b₁ : List ℕ} {k r : ℕ} (w : Wrote b b₁ k r (run (take i l))) where
-    pub wrote-more : {b₂ : List ℕ} {s : ℕ} → Wrote b₁ b₂ r s (run (get_or l i d ∷ [])) → Wrote b b₂ k s (run (take (i + 1) l))
-    wrote-more v = rw (run_more run run-append l i d h) (wrote_then w v)
+    pub wrote_more : {b₂ : List ℕ} {s : ℕ} → Wrote b₁ b₂ r s (run (get_or l i d ∷ [])) → Wrote b b₂ k s (run (take (i + 1) l))
+    wrote_more v = rw (run_more run run-append l i d h) (wrote_then w v)
 
     -- where there is room for the records of the first n elements there is room for those of one more
-    pub room-more : (n : ℕ) → i < n → Room b k (run (take n l)) → Room b₁ r (run (get_or l i d ∷ []))
-    room-more n g room = record { fits = omega (arith, room.fits, w.count, wrote_length w, length-within run run-append l i d h n g) }
+    pub room_more : (n : ℕ) → i < n → Room b k (run (take n l)) → Room b₁ r (run (get_or l i d ∷ []))
+    room_more n g room = record { fits = omega (arith, room.fits, w.count, wrote_length w, length_within run run-append l i d h n g) }
 
 -- ---- records that are read back
 -- those that were written from the front of a buffer

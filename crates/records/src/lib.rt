@@ -1,11 +1,13 @@
 // The records handed out: three bytes each, kind, target and argument, from the front of a lent buffer.
+#![tactic(auto)]
+
 ghost use Rattle.std.specs.Prelude.{◌*◌, ◌≤◌, ◌≡◌, [], ◌∷◌, true, length};
 ghost use Rattle.records.specs.Records.{controller_number, transceiver_number, pdu_number, mode_number, mode_named, notice_number, status_number};
 ghost use Rattle.records.specs.Records.{controller_mode, transceiver_mode, pdu_mode, clear_wake, check_wake, tells, notes, reports, turned};
 ghost use Rattle.records.specs.Wrote.{Room, Wrote, heeded};
 
 // H1: a record handed out.
-#[derive(Drop)]
+#[derive(Clone, Copy)]
 pub struct Record {
     pub kind: u8,
     pub target: u8,
@@ -13,7 +15,7 @@ pub struct Record {
 }
 
 // H5: what a controller can be asked for.
-#[derive(Drop)]
+#[derive(Clone, Copy)]
 pub enum ControllerMode {
     Stopped,
     Started,
@@ -41,7 +43,7 @@ impl ControllerMode {
 }
 
 // H6: what a transceiver can be asked for.
-#[derive(Drop)]
+#[derive(Clone, Copy)]
 pub enum TransceiverMode {
     Normal,
     Standby,
@@ -65,7 +67,7 @@ impl TransceiverMode {
 }
 
 // H7: the PDU mode of a controller.
-#[derive(Drop)]
+#[derive(Clone, Copy)]
 pub enum PduMode {
     Online,
     TxOffline,
@@ -89,7 +91,7 @@ impl PduMode {
 }
 
 // H10: a communication mode: wanted, told, polled.
-#[derive(Drop)]
+#[derive(Clone, Copy)]
 pub enum Mode {
     No,
     Silent,
@@ -97,7 +99,7 @@ pub enum Mode {
 }
 
 // The mode that a number names, if any.
-#[derive(Drop)]
+#[derive(Clone, Copy)]
 pub enum NamedMode {
     Known(Mode),
     Unknown,
@@ -134,7 +136,7 @@ impl Mode {
 }
 
 // H11: what the mode manager is told.
-#[derive(Drop)]
+#[derive(Clone, Copy)]
 pub enum Notice {
     No,
     Silent,
@@ -164,7 +166,7 @@ impl Notice {
 }
 
 // H12: what the event manager is told.
-#[derive(Drop)]
+#[derive(Clone, Copy)]
 pub enum EventStatus {
     Passed,
     Prefailed,

@@ -12,12 +12,12 @@ use Rattle.slots.specs.Calls.{start, started_from, after_writing, writing_of, ou
 -- the writer's answer, by the room that it has
 pub written_in_room : (m : Manager) (b : List ℕ) → after_writing m (written (settings_of m) b) ≡ writing_of m (length b)
 unfolding written writing_of
-written_in_room m b = by-room (leb (length (encode (settings_of m))) (length b))
+written_in_room m b = by_room (leb (length (encode (settings_of m))) (length b))
   where
-    by-room : (fits : Bool) → after_writing m (cond fits (Written.Length (length (encode (settings_of m)))) Written.Short)
+    by_room : (fits : Bool) → after_writing m (cond fits (Written.Length (length (encode (settings_of m)))) Written.Short)
         ≡ cond fits (accepted m (length (encode (settings_of m)))) (refused m Answer.TooShort)
-    by-room true = refl
-    by-room false = refl
+    by_room true = refl
+    by_room false = refl
 
 -- a start of a manager that has a sheet and was not started
 pub start_loaded : (m : Manager) → m.stage ≡ Stage.Loaded → outcome m start ≡ accepted (started_from m) 0

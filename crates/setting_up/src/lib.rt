@@ -1,4 +1,6 @@
 // Setting up a manager: a new one, its sheet, and its start.
+#![tactic(auto)]
+
 mod setting_up;
 mod starting;
 

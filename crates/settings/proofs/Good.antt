@@ -4,7 +4,7 @@ use Rattle.lists.proofs.Basics.{ℕ, ◌+◌, ◌<◌, arith, ◌≡◌, refl, s
 use Rattle.lists.proofs.Basics.{append_snoc, length}
 use Rattle.lists.specs.Lists.{any}
 use Rattle.lists.proofs.Any.{any_append}
-use Rattle.lists.proofs.Parts.{padded-count}
+use Rattle.lists.proofs.Parts.{padded_count}
 use Rattle.settings.specs.declared.Transceiver.{Transceiver}
 use Rattle.settings.specs.declared.Transceiver.TheVariants.{Absent, Present}
 use Rattle.settings.specs.declared.Network.{Network}
@@ -16,7 +16,7 @@ use Rattle.settings.specs.Good.{Below, Fresh, all, InRange, EachInRange}
 -- ---- InRange
 -- a network has as many controllers as it counts, and so one at least
 pub controllers_counted : (n : Network) → InRange n → length (controllers_of n) ≡ n.count
-controllers_counted n g = padded-count 4 0 n.controllers n.count g.few_controllers g.blank_slots
+controllers_counted n g = padded_count 4 0 n.controllers n.count g.few_controllers g.blank_slots
 
 pub some_controller : (n : Network) → InRange n → 0 < length (controllers_of n)
 some_controller n g =

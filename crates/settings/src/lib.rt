@@ -1,23 +1,25 @@
 // The settings: what a sheet says of its networks, the limits, and which network has an id.
+#![tactic(auto)]
+
 ghost use Rattle.std.specs.Prelude.{◌≡◌, min};
 ghost use Rattle.settings.specs.Settings.{blank_network, blank_settings, member, controllers_of, has_transceiver, has, networks_of, used, holder_of};
 
 // S6: the transceiver of a network, which may be missing.
-#[derive(Drop)]
+#[derive(Clone, Copy)]
 pub enum Transceiver {
     Absent,
     Present(u8),
 }
 
 // S27: how the bus-offs that were counted are held against the threshold: the long delay comes above it, or at it already.
-#[derive(Drop)]
+#[derive(Clone, Copy)]
 pub enum Relation {
     Above,
     AtOrAbove,
 }
 
 // S4 to S9, S27: what the sheet says of one network.
-#[derive(Drop)]
+#[derive(Clone, Copy)]
 pub struct Network {
     pub handle: u8,
     // The ids of its controllers, in the order of the sheet; unused slots are 0.
@@ -36,14 +38,14 @@ pub struct Network {
 }
 
 // The networks of a sheet, in its order; unused slots are blank.
-#[derive(Drop)]
+#[derive(Clone, Copy)]
 pub struct Settings {
     pub networks: [Network; Settings::MOST_NETWORKS],
     pub count: u8,
 }
 
 // S10: an id of one of the three kinds. Each kind has numbers of its own.
-#[derive(Drop)]
+#[derive(Clone, Copy)]
 pub enum Id {
     OfNetwork(u8),
     OfController(u8),
@@ -51,7 +53,7 @@ pub enum Id {
 }
 
 // Which network of the settings has an id: the one at this place, the first being 0.
-#[derive(Drop)]
+#[derive(Clone, Copy)]
 pub enum Holder {
     At(u8),
     Nobody,

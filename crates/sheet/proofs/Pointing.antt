@@ -65,14 +65,14 @@ module _ (s : List ℕ) (at : ℕ) where
   Found (Entry.Relation x) = OneByte 0x07 x
 
   module _ (tag n : ℕ) (h : Headed s at tag n) where
-    unknown-here : ((1 ≤ tag) × (tag ≤ 7) → ⊥) → UnknownField s at
-    unknown-here u = record { starts = h.starts; head = h.head; unknown = λ k. u (rw h.tag_is k) }
+    unknown_here : ((1 ≤ tag) × (tag ≤ 7) → ⊥) → UnknownField s at
+    unknown_here u = record { starts = h.starts; head = h.head; unknown = λ k. u (rw h.tag_is k) }
 
-    length-written : n ≡ wide s (at + 1)
-    length-written = let e : at + 1 + 1 ≡ at + 2 = omega arith in h.length_is ∙ rw e refl
+    length_written : n ≡ wide s (at + 1)
+    length_written = let e : at + 1 + 1 ≡ at + 2 = omega arith in h.length_is ∙ rw e refl
 
-    wrong-here : ((1 ≤ tag) × (tag ≤ 7)) × (n ≡ cond (eqb tag 4) 6 1 → ⊥) → LengthHere s (at + 1)
-    wrong-here w =
+    wrong_here : ((1 ≤ tag) × (tag ≤ 7)) × (n ≡ cond (eqb tag 4) 6 1 → ⊥) → LengthHere s (at + 1)
+    wrong_here w =
         let t = h.tag_is in
         record {
           at = at;
@@ -80,34 +80,34 @@ module _ (s : List ℕ) (at : ℕ) where
           here = refl;
           head = h.head;
           known = rw (← t) w.0;
-          wrong = λ e. w.1 (length-written ∙ e ∙ rw t refl);
+          wrong = λ e. w.1 (length_written ∙ e ∙ rw t refl);
         }
 
-    cut-here : length s < at + 3 + n → (1 ≤ tag) × (tag ≤ 7) → n ≡ cond (eqb tag 4) 6 1 → CutField s at
-    cut-here few known right =
+    cut_here : length s < at + 3 + n → (1 ≤ tag) × (tag ≤ 7) → n ≡ cond (eqb tag 4) 6 1 → CutField s at
+    cut_here few known right =
         let t = h.tag_is in
         record {
           starts = h.starts;
           within = let k = h.head in omega arith;
-          too_few = rw (← length-written) few;
-          right = λ _. (rw (← t) known, sym length-written ∙ right ∙ rw t refl);
+          too_few = rw (← length_written) few;
+          right = λ _. (rw (← t) known, sym length_written ∙ right ∙ rw t refl);
         }
 
     -- a field whose value runs past the end
-    overrun-points : length s < at + 3 + n → (layout : Layout) → Says tag n layout → Found (Bad (overrun_fault layout))
-    overrun-points few Unknown u = unknown-here u
-    overrun-points few Wrong w = wrong-here w
-    overrun-points few Byte b = cut-here few (b.1, b.2) (rw (ne_eqb tag 4 b.3, b.0) refl)
-    overrun-points few Layout.Times b = cut-here few (let t = b.1 in (omega arith, omega arith)) (rw (b.1, b.0) refl)
+    overrun_points : length s < at + 3 + n → (layout : Layout) → Says tag n layout → Found (Bad (overrun_fault layout))
+    overrun_points few Unknown u = unknown_here u
+    overrun_points few Wrong w = wrong_here w
+    overrun_points few Byte b = cut_here few (b.1, b.2) (rw (ne_eqb tag 4 b.3, b.0) refl)
+    overrun_points few Layout.Times b = cut_here few (let t = b.1 in (omega arith, omega arith)) (rw (b.1, b.0) refl)
 
   module _ (tag : ℕ) (v : List ℕ) (g : Valued s at tag v) where
-    right-here : (1 ≤ tag) × (tag ≤ 7) → length v ≡ cond (eqb tag 4) 6 1 → WholeField s at
-    right-here known right =
+    right_here : (1 ≤ tag) × (tag ≤ 7) → length v ≡ cond (eqb tag 4) 6 1 → WholeField s at
+    right_here known right =
         let t = g.headed.tag_is in
         record {
           starts = g.headed.starts;
           known = rw (← t) known;
-          right = sym (length-written tag (length v) g.headed) ∙ right ∙ rw t refl;
+          right = sym (length_written tag (length v) g.headed) ∙ right ∙ rw t refl;
           within = let w = g.within in rw (← t, ← right) w;
         }
 
@@ -117,31 +117,31 @@ module _ (s : List ℕ) (at : ℕ) where
         let right : length v ≡ cond (eqb tag 4) 6 1 = rw (other, b.0) refl in
         let zero : at + 3 + 0 ≡ at + 3 = omega arith in
         record {
-          whole = right-here (b.1, b.2) right;
+          whole = right_here (b.1, b.2) right;
           tag_is = sym g.headed.tag_is ∙ eqb-true tag k a;
           byte = ap (λ (l : List ℕ). get_or l 0 0) g.value
               ∙ value_byte s (at + 3) (length v) 0 (let m = b.0 in omega arith) ∙ ap (λ (i : ℕ). get_or s i 0) zero;
         }
 
-    three-times : Says tag (length v) Layout.Times → ThreeTimes (wide v 0) (wide v 2) (wide v 4)
-    three-times b =
+    three_times : Says tag (length v) Layout.Times → ThreeTimes (wide v 0) (wide v 2) (wide v 4)
+    three_times b =
         let right : length v ≡ cond (eqb tag 4) 6 1 = rw (b.1, b.0) refl in
         let value : v ≡ take 6 (drop (at + 3) s) = g.value ∙ ap (λ (m : ℕ). take m (drop (at + 3) s)) b.0 in
         let number : (i j : ℕ) → i + 1 < 6 → at + 3 + i ≡ j → wide v i ≡ wide s j =
         λ i j h e. ap (λ (l : List ℕ). wide l i) value ∙ value_wide s (at + 3) i h ∙ ap (wide s) e in
         record {
-          whole = right-here (let t = b.1 in (omega arith, omega arith)) right;
+          whole = right_here (let t = b.1 in (omega arith, omega arith)) right;
           tag_is = sym g.headed.tag_is ∙ b.1;
           short = number 0 (at + 3) (omega arith) (omega arith);
           long = number 2 (at + 5) (omega arith) (omega arith);
           ensure = number 4 (at + 7) (omega arith) (omega arith);
         }
 
-    found-by : (layout : Layout) → Says tag (length v) layout → Found (whole_entry layout tag v)
+    found_by : (layout : Layout) → Says tag (length v) layout → Found (whole_entry layout tag v)
     unfolding whole_entry byte_entry times_entry
-    found-by Unknown u = unknown-here tag (length v) g.headed u
-    found-by Wrong w = wrong-here tag (length v) g.headed w
-    found-by Byte b =
+    found_by Unknown u = unknown_here tag (length v) g.headed u
+    found_by Wrong w = wrong_here tag (length v) g.headed w
+    found_by Byte b =
         split Found (eqb tag 1) (λ a. one_byte 1 a b)
         (λ a. split Found (eqb tag 2) (λ d. one_byte 2 d b)
         (λ d. split Found (eqb tag 3) (λ e. one_byte 3 e b)
@@ -158,11 +158,11 @@ module _ (s : List ℕ) (at : ℕ) where
           eqb-false tag 5 f,
           eqb-false tag 6 i,
         ))) b)))))
-    found-by Layout.Times b = three-times b
+    found_by Layout.Times b = three_times b
 
     found : Found (field_entry tag v)
     unfolding field_entry
-    found = found-by (layout_of tag (length v)) (layout_says tag (length v))
+    found = found_by (layout_of tag (length v)) (layout_says tag (length v))
 
 -- ---- a refusal of an entry points into its field
 module _ (s : List ℕ) (at : ℕ) (S : Settings) where
@@ -171,8 +171,8 @@ module _ (s : List ℕ) (at : ℕ) (S : Settings) where
   number_at place p e whole number = subst (NumberHere s) (sym e) (record { at = at; whole = whole; number = number })
 
   -- the one number of a field
-  only-number : {tag x : ℕ} → OneByte s at tag x → BadNumber s at (at + 3) → NumberHere s (at + 3 + 0)
-  only-number f number = number_at (at + 3 + 0) (at + 3) (omega arith) f.whole number
+  only_number : {tag x : ℕ} → OneByte s at tag x → BadNumber s at (at + 3) → NumberHere s (at + 3 + 0)
+  only_number f number = number_at (at + 3 + 0) (at + 3) (omega arith) f.whole number
 
   -- where a network may begin
   abbrev OpeningPoints : Entry → Opening → Type 0
@@ -181,25 +181,25 @@ module _ (s : List ℕ) (at : ℕ) (S : Settings) where
   OpeningPoints entry (Refuses fault) = Points fault s (place_of fault entry at)
   OpeningPoints entry Amends = 0 < S.count
 
-  opening-points : (entry : Entry) → Found s at entry → OpeningPoints entry (opens S entry)
+  opening_points : (entry : Entry) → Found s at entry → OpeningPoints entry (opens S entry)
   unfolding opens opens_with on_relation
-  opening-points End f = f
-  opening-points (Bad fault) f = f
-  opening-points (Entry.Handle x) f =
+  opening_points End f = f
+  opening_points (Bad fault) f = f
+  opening_points (Entry.Handle x) f =
       let P = OpeningPoints (Entry.Handle x) in
       let t = f.tag_is in
       split P (used (OfNetwork x) (networks_of S)) (λ _. (f.whole, omega arith))
       (λ _. split P (leb 8 S.count) (λ _. (f.whole, omega arith)) (λ _. tt))
-  opening-points (Entry.Controller x) f = f.whole
-  opening-points (Entry.Transceiver x) f = f.whole
-  opening-points (Entry.Times x y z) f = f.whole
-  opening-points (Entry.Threshold x) f = f.whole
-  opening-points (Entry.Partial x) f = f.whole
-  opening-points (Entry.Relation x) f =
+  opening_points (Entry.Controller x) f = f.whole
+  opening_points (Entry.Transceiver x) f = f.whole
+  opening_points (Entry.Times x y z) f = f.whole
+  opening_points (Entry.Threshold x) f = f.whole
+  opening_points (Entry.Partial x) f = f.whole
+  opening_points (Entry.Relation x) f =
       let P = OpeningPoints (Entry.Relation x) in
       split P (takes_relation (networks_of S))
       (λ t. split P (eqb x 1) (λ _. some_before S t)
-      (λ a. only-number f (relation f.tag_is refl (λ e. eqb-false x 1 a (f.byte ∙ e)))))
+      (λ a. only_number f (relation f.tag_is refl (λ e. eqb-false x 1 a (f.byte ∙ e)))))
       (λ _. f.whole)
 
   -- within a network
@@ -212,33 +212,33 @@ module _ (s : List ℕ) (at : ℕ) (S : Settings) where
     abbrev FilledPoints : Entry → Filled → Type 0
     FilledPoints entry m = FillingPoints entry m.filling
 
-    controller-points : (x : ℕ) → OneByte s at 0x02 x → FilledPoints (Entry.Controller x) (on_controller S N P x)
+    controller_points : (x : ℕ) → OneByte s at 0x02 x → FilledPoints (Entry.Controller x) (on_controller S N P x)
     unfolding on_controller
-    controller-points x f =
+    controller_points x f =
         let P' = FilledPoints (Entry.Controller x) in
         let t = f.tag_is in
         split P' (takes_controller P)
         (λ _. split P' (leb 32 x)
-        (λ a. only-number f (controller_id t refl (subst (λ (k : ℕ). 32 ≤ k) f.byte (leb-true 32 x a))))
+        (λ a. only_number f (controller_id t refl (subst (λ (k : ℕ). 32 ≤ k) f.byte (leb-true 32 x a))))
         (λ _. split P' (used (OfController x) (networks_of S)) (λ _. (f.whole, omega arith))
         (λ _. split P' (has (OfController x) N) (λ _. (f.whole, omega arith))
         (λ _. split P' (leb 4 N.count) (λ _. (f.whole, omega arith)) (λ _. tt)))))
         (λ _. f.whole)
 
-    transceiver-points : (x : ℕ) → OneByte s at 0x03 x → FilledPoints (Entry.Transceiver x) (on_transceiver S N P x)
+    transceiver_points : (x : ℕ) → OneByte s at 0x03 x → FilledPoints (Entry.Transceiver x) (on_transceiver S N P x)
     unfolding on_transceiver
-    transceiver-points x f =
+    transceiver_points x f =
         let P' = FilledPoints (Entry.Transceiver x) in
         let t = f.tag_is in
         split P' (takes_transceiver P)
         (λ _. split P' (leb 8 x)
-        (λ a. only-number f (transceiver_id t refl (subst (λ (k : ℕ). 8 ≤ k) f.byte (leb-true 8 x a))))
+        (λ a. only_number f (transceiver_id t refl (subst (λ (k : ℕ). 8 ≤ k) f.byte (leb-true 8 x a))))
         (λ _. split P' (used (OfTransceiver x) (networks_of S)) (λ _. (f.whole, omega arith)) (λ _. tt)))
         (λ _. f.whole)
 
-    times-points : (x y z : ℕ) → ThreeTimes s at x y z → FilledPoints (Entry.Times x y z) (on_times N P x y z)
+    times_points : (x y z : ℕ) → ThreeTimes s at x y z → FilledPoints (Entry.Times x y z) (on_times N P x y z)
     unfolding on_times first_zero
-    times-points x y z f =
+    times_points x y z f =
         let P' = FilledPoints (Entry.Times x y z) in
         let t = f.tag_is in
         let some : (k j : ℕ) → k ≡ wide s j → eqb k 0 ≡ false → wide s j ≡ 0 → ⊥ = λ k j e a w. eqb-false k 0 a (e ∙ w) in
@@ -254,38 +254,38 @@ module _ (s : List ℕ) (at : ℕ) (S : Settings) where
         (λ _. tt))))
         (λ _. f.whole)
 
-    threshold-points : (x : ℕ) → OneByte s at 0x05 x → FilledPoints (Entry.Threshold x) (on_threshold N P x)
+    threshold_points : (x : ℕ) → OneByte s at 0x05 x → FilledPoints (Entry.Threshold x) (on_threshold N P x)
     unfolding on_threshold
-    threshold-points x f =
+    threshold_points x f =
         let P' = FilledPoints (Entry.Threshold x) in
         split P' (takes_threshold P)
         (λ _. split P' (leb 255 x)
-        (λ a. only-number f (threshold f.tag_is refl (subst (λ (k : ℕ). 255 ≤ k) f.byte (leb-true 255 x a)))) (λ _. tt))
+        (λ a. only_number f (threshold f.tag_is refl (subst (λ (k : ℕ). 255 ≤ k) f.byte (leb-true 255 x a)))) (λ _. tt))
         (λ _. f.whole)
 
-    partial-points : (x : ℕ) → OneByte s at 0x06 x → FilledPoints (Entry.Partial x) (on_partial N P x)
+    partial_points : (x : ℕ) → OneByte s at 0x06 x → FilledPoints (Entry.Partial x) (on_partial N P x)
     unfolding on_partial
-    partial-points x f =
+    partial_points x f =
         let P' = FilledPoints (Entry.Partial x) in
         let t = f.tag_is in
         split P' (takes_partial P)
         (λ _. split P' (eqb x 0) (λ _. tt)
         (λ a. split P' (eqb x 1)
         (λ b. split P' (present N.transceiver) (λ _. tt) (λ _. (f.whole, t, sym f.byte ∙ eqb-true x 1 b)))
-        (λ b. only-number f (partial_networking t refl (let e = f.byte in omega (arith, eqb-false x 0 a, eqb-false x 1 b))))))
+        (λ b. only_number f (partial_networking t refl (let e = f.byte in omega (arith, eqb-false x 0 a, eqb-false x 1 b))))))
         (λ _. f.whole)
 
-    filling-points : (entry : Entry) → Found s at entry → FilledPoints entry (fills S N P entry)
+    filling_points : (entry : Entry) → Found s at entry → FilledPoints entry (fills S N P entry)
     unfolding fills
-    filling-points End f = absurd f
-    filling-points (Bad fault) f = f
-    filling-points (Entry.Handle x) f = f.whole
-    filling-points (Entry.Controller x) f = controller-points x f
-    filling-points (Entry.Transceiver x) f = transceiver-points x f
-    filling-points (Entry.Times x y z) f = times-points x y z f
-    filling-points (Entry.Threshold x) f = threshold-points x f
-    filling-points (Entry.Partial x) f = partial-points x f
-    filling-points (Entry.Relation x) f = f.whole
+    filling_points End f = absurd f
+    filling_points (Bad fault) f = f
+    filling_points (Entry.Handle x) f = f.whole
+    filling_points (Entry.Controller x) f = controller_points x f
+    filling_points (Entry.Transceiver x) f = transceiver_points x f
+    filling_points (Entry.Times x y z) f = times_points x y z f
+    filling_points (Entry.Threshold x) f = threshold_points x f
+    filling_points (Entry.Partial x) f = partial_points x f
+    filling_points (Entry.Relation x) f = f.whole
 
 -- ---- the row
 module _ (s : List ℕ) where
@@ -293,14 +293,14 @@ module _ (s : List ℕ) where
   abbrev Right : Reading → Type 0
   Right d = (fault : Fault) → d.answer ≡ Verdict.Refused fault → Points fault s d.place
 
-  refused-right : (fault : Fault) (place : ℕ) → Points fault s place → Right (refused_at fault place)
+  refused_right : (fault : Fault) (place : ℕ) → Points fault s place → Right (refused_at fault place)
   unfolding refused_at
-  refused-right fault place p fault' e = let same : fault ≡ fault' = cc in subst (λ (f : Fault). Points f s place) same p
+  refused_right fault place p fault' e = let same : fault ≡ fault' = cc in subst (λ (f : Fault). Points f s place) same p
 
-  closed-right : (S : Settings) (at : ℕ) → (S.count ≡ 0 → s ≡ []) → Right (closed S at)
+  closed_right : (S : Settings) (at : ℕ) → (S.count ≡ 0 → s ≡ []) → Right (closed S at)
   unfolding closed
-  closed-right S at none =
-      split Right (eqb S.count 0) (λ a. refused-right Empty 0 (none (eqb-true S.count 0 a), refl))
+  closed_right S at none =
+      split Right (eqb S.count 0) (λ a. refused_right Empty 0 (none (eqb-true S.count 0 a), refl))
       (λ _ fault e. absurd (let z : ◌≡◌ {A = ℕ} 0 1 = cc in omega arith))
 
   -- where there is no network yet, no byte was read before the end
@@ -316,19 +316,19 @@ module _ (s : List ℕ) where
   some_network S (overrun at tag n) h = tt
   some_network S (field at tag v rest) h = tt
 
-  end-right : (at : ℕ) → LaidOut s (stop at) → Points Cut s at
-  end-right at l =
+  end_right : (at : ℕ) → LaidOut s (stop at) → Points Cut s at
+  end_right at l =
       let e = l.1 in record { starts = l.0; within = omega arith; too_few = omega arith; right = λ h. absurd (omega arith) }
 
-  stub-right : (at tag : ℕ) → LaidOut s (stub at tag) → Points Cut s at
-  stub-right at tag l =
+  stub_right : (at tag : ℕ) → LaidOut s (stub at tag) → Points Cut s at
+  stub_right at tag l =
       let k = l.1 in
       let m = l.2 in
       record { starts = l.0; within = omega arith; too_few = omega arith; right = λ h. absurd (omega arith) }
 
-  overrun-right : (at tag n : ℕ) → LaidOut s (overrun at tag n) →
+  overrun_right : (at tag n : ℕ) → LaidOut s (overrun at tag n) →
       Points (overrun_fault (layout_of tag n)) s (place_of (overrun_fault (layout_of tag n)) (Bad (overrun_fault (layout_of tag n))) at)
-  overrun-right at tag n l = overrun-points s at tag n l.0 l.1 (layout_of tag n) (layout_says tag n)
+  overrun_right at tag n l = overrun_points s at tag n l.0 l.1 (layout_of tag n) (layout_says tag n)
 
   -- what is told of the rest of a row, after a network and within one
   abbrev SheetRight : Row → Type 0
@@ -337,56 +337,56 @@ module _ (s : List ℕ) where
   abbrev NetworkRight : Row → Type 0
   NetworkRight row = (S : Settings) (N : Network) (P : Progress) → Right (network row S N P)
 
-  after-opening : (at : ℕ) (rest : Row) (S : Settings) (entry : Entry) (o : Opening) → OpeningPoints s at S entry o → NetworkRight rest
+  after_opening_lem : (at : ℕ) (rest : Row) (S : Settings) (entry : Entry) (o : Opening) → OpeningPoints s at S entry o → NetworkRight rest
       → SheetRight rest → Right (after_opening o S entry at (λ handle. network rest S (begun handle) Named) (λ more. sheet rest more))
   unfolding after_opening amended
-  after-opening at rest S entry Closes p net sh = absurd p
-  after-opening at rest S entry (Begins handle) p net sh = net S (begun handle) Named
-  after-opening at rest S entry (Refuses fault) p net sh = refused-right fault (place_of fault entry at) p
-  after-opening at rest S entry Amends p net sh = sh (amended S) (some_network (amended S) rest p)
+  after_opening_lem at rest S entry Closes p net sh = absurd p
+  after_opening_lem at rest S entry (Begins handle) p net sh = net S (begun handle) Named
+  after_opening_lem at rest S entry (Refuses fault) p net sh = refused_right fault (place_of fault entry at) p
+  after_opening_lem at rest S entry Amends p net sh = sh (amended S) (some_network (amended S) rest p)
 
-  after-filling : (at : ℕ) (rest : Row) (S : Settings) (N : Network) (P : Progress) (entry : Entry) (to : Filling) (m : Network)
+  after_filling_lem : (at : ℕ) (rest : Row) (S : Settings) (N : Network) (P : Progress) (entry : Entry) (to : Filling) (m : Network)
       → FillingPoints s at S N P entry to → NetworkRight rest → SheetRight rest
       → Right (after_filling to m entry at (λ n next. network rest S n next) (λ n. sheet rest (pushed S n)))
   unfolding after_filling pushed
-  after-filling at rest S N P entry (More progress) m p net sh = net S m progress
-  after-filling at rest S N P entry Filling.Whole m p net sh = sh (pushed S m) (some_network (pushed S m) rest (omega arith))
-  after-filling at rest S N P entry (Filling.Refused fault) m p net sh = refused-right fault (place_of fault entry at) p
+  after_filling_lem at rest S N P entry (More progress) m p net sh = net S m progress
+  after_filling_lem at rest S N P entry Filling.Whole m p net sh = sh (pushed S m) (some_network (pushed S m) rest (omega arith))
+  after_filling_lem at rest S N P entry (Filling.Refused fault) m p net sh = refused_right fault (place_of fault entry at) p
 
   mutual
     unfolding sheet network
 
-    sheet-right : (row : Row) → LaidOut s row → SheetRight row
-    sheet-right (stop at) l = λ S none. closed-right S at none
-    sheet-right (stub at tag) l = λ S none. refused-right Cut at (stub-right at tag l)
-    sheet-right (overrun at tag n) l = λ S none. refused-right (overrun_fault (layout_of tag n)) _ (overrun-right at tag n l)
-    sheet-right (field at tag v rest) l = λ S none.
+    sheet_right : (row : Row) → LaidOut s row → SheetRight row
+    sheet_right (stop at) l = λ S none. closed_right S at none
+    sheet_right (stub at tag) l = λ S none. refused_right Cut at (stub_right at tag l)
+    sheet_right (overrun at tag n) l = λ S none. refused_right (overrun_fault (layout_of tag n)) _ (overrun_right at tag n l)
+    sheet_right (field at tag v rest) l = λ S none.
         let entry = field_entry tag v in
-        after-opening at rest S entry (opens S entry) (opening-points s at S entry (found s at tag v l.0))
-        (network-right rest l.1) (sheet-right rest l.1)
+        after_opening_lem at rest S entry (opens S entry) (opening_points s at S entry (found s at tag v l.0))
+        (network_right rest l.1) (sheet_right rest l.1)
 
-    network-right : (row : Row) → LaidOut s row → NetworkRight row
-    network-right (stop at) l = λ S N P. refused-right Cut at (end-right at l)
-    network-right (stub at tag) l = λ S N P. refused-right Cut at (stub-right at tag l)
-    network-right (overrun at tag n) l = λ S N P. refused-right (overrun_fault (layout_of tag n)) _ (overrun-right at tag n l)
-    network-right (field at tag v rest) l = λ S N P.
+    network_right : (row : Row) → LaidOut s row → NetworkRight row
+    network_right (stop at) l = λ S N P. refused_right Cut at (end_right at l)
+    network_right (stub at tag) l = λ S N P. refused_right Cut at (stub_right at tag l)
+    network_right (overrun at tag n) l = λ S N P. refused_right (overrun_fault (layout_of tag n)) _ (overrun_right at tag n l)
+    network_right (field at tag v rest) l = λ S N P.
         let entry = field_entry tag v in
-        after-filling at rest S N P entry (fills S N P entry).filling (fills S N P entry).network
-        (filling-points s at S N P entry (found s at tag v l.0)) (network-right rest l.1) (sheet-right rest l.1)
+        after_filling_lem at rest S N P entry (fills S N P entry).filling (fills S N P entry).network
+        (filling_points s at S N P entry (found s at tag v l.0)) (network_right rest l.1) (sheet_right rest l.1)
 
   -- where the row of all the bytes is at its end at once, there is no byte
-  first-end : (S : Settings) (f : Field) → front 0 (drop 0 s) ≡ f → NoneYet S (Fields.row_from s 0 f)
-  first-end S Field.End e = λ _. subst (Fields.Lies 0 (drop 0 s)) e (Fields.front_lies 0 (drop 0 s))
-  first-end S (Stub tag) e = tt
-  first-end S (Overrun tag n) e = tt
-  first-end S (Whole tag n next) e = tt
+  first_end : (S : Settings) (f : Field) → front 0 (drop 0 s) ≡ f → NoneYet S (Fields.row_from s 0 f)
+  first_end S Field.End e = λ _. subst (Fields.Lies 0 (drop 0 s)) e (Fields.front_lies 0 (drop 0 s))
+  first_end S (Stub tag) e = tt
+  first_end S (Overrun tag n) e = tt
+  first_end S (Whole tag n next) e = tt
 
   -- ---- the whole sheet
   pub refused_points : (fault : Fault) → (decode s).answer ≡ Verdict.Refused fault → Points fault s (decode s).place
   unfolding read_from
   refused_points =
-      sheet-right (row_at s 0) (laid_out s) blank_settings
-      (rw (Fields.row_from s 0 (front 0 (drop 0 s)) refl) (first-end blank_settings (front 0 (drop 0 s)) refl))
+      sheet_right (row_at s 0) (laid_out s) blank_settings
+      (rw (Fields.row_from s 0 (front 0 (drop 0 s)) refl) (first_end blank_settings (front 0 (drop 0 s)) refl))
 
 -- ---- how far a place can lie
 whole_inside : (b : List ℕ) (place : ℕ) → WholeField b place → place < length b

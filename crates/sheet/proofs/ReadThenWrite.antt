@@ -5,8 +5,8 @@ use Rattle.lists.proofs.Basics.{false, false≢true, cond, eqb, leb, length, get
 use Rattle.lists.specs.Lists.{padded, Bytes}
 use mathlib.Core.Path.{fun_ext}
 use Rattle.lists.proofs.Tests.{split}
-use Rattle.lists.proofs.Any.{any-append-none, Ending, ending}
-use Rattle.lists.proofs.Parts.{take-set-more, padded-set, padded-length}
+use Rattle.lists.proofs.Any.{any_append_none, Ending, ending}
+use Rattle.lists.proofs.Parts.{take_set_more, padded_set, padded_length}
 use Rattle.fields.specs.Fields.{Row, stop, stub, overrun, field, row_at, field_bytes}
 use Rattle.fields.proofs.Laws.{bytes_of, Ends, ByteRow, bytes_back, bytes_row, two_bytes}
 use Rattle.settings.specs.declared.Transceiver.{Transceiver}
@@ -174,17 +174,17 @@ led_same ns bytes m e p = subst (λ (f : List ℕ → List ℕ). Led ns (λ l. b
 -- ---- field 02
 module _ (ns : List Network) (n : Network) (x : ℕ) (b : Base ns n) (h : n.count < 4) where
   four : length n.controllers ≡ 4
-  four = padded-length 4 0 n.controllers n.count b.few b.slots
+  four = padded_length 4 0 n.controllers n.count b.few b.slots
 
-  controllers-more : controllers_of (add_controller n x) ≡ controllers_of n ++ (x ∷ [])
+  controllers_more : controllers_of (add_controller n x) ≡ controllers_of n ++ (x ∷ [])
   unfolding add_controller
-  controllers-more = take-set-more n.controllers n.count x (omega (arith, four))
+  controllers_more = take_set_more n.controllers n.count x (omega (arith, four))
 
   base_more : x < 32 → member x (all controllers_of ns ++ controllers_of n) ≡ false → Base ns (add_controller n x)
   unfolding add_controller Below
   base_more k e =
       let u : length (controllers_of n) ≡ n.count = length-take-le n.count n.controllers (omega (arith, four)) in
-      let t = controllers-more in
+      let t = controllers_more in
       record {
         handle = b.handle;
         fresh_handle = b.fresh_handle;
@@ -192,7 +192,7 @@ module _ (ns : List Network) (n : Network) (x : ℕ) (b : Base ns n) (h : n.coun
         slots =
             ap (λ (l : List ℕ). set l n.count x) b.slots
             ∙ ap (λ (k : ℕ). set (padded 4 0 (controllers_of n)) k x) (sym u)
-            ∙ padded-set 4 0 x (controllers_of n) (omega arith)
+            ∙ padded_set 4 0 x (controllers_of n) (omega arith)
             ∙ ap (padded 4 0) (sym t);
         below = subst (Below 32) (sym t) (below_append 32 (controllers_of n) (x ∷ []) b.below (k, tt));
         fresh = subst (Fresh (all controllers_of ns)) (sym t) (fresh_more (all controllers_of ns) (controllers_of n) x b.fresh e);
@@ -211,9 +211,9 @@ controller_led ns n x b t =
     (λ k.
     let h : n.count < 4 = leb-false 4 n.count k in
     let v : member x (all controllers_of ns) ≡ false = sym (used_controller x ns) ∙ ap (used (OfController x)) (sym (networks_of_lem ns)) ∙ u in (
-      (base_more ns n x b h (leb-false 32 x a) (any-append-none _ (all controllers_of ns) (controllers_of n) v o), t, omega arith),
+      (base_more ns n x b h (leb-false 32 x a) (any_append_none _ (all controllers_of ns) (controllers_of n) v o), t, omega arith),
       λ l. ap (byte_field 1 n.handle)
-          (ap (λ (cs : List ℕ). encode_controllers cs l) (controllers-more ns n x b h) ∙ controllers_onto (controllers_of n) (x ∷ []) l),
+          (ap (λ (cs : List ℕ). encode_controllers cs l) (controllers_more ns n x b h) ∙ controllers_onto (controllers_of n) (x ∷ []) l),
     )))))
 
 controller_leads : (ns : List Network) (n : Network) (progress : Progress) (x : ℕ) →
@@ -269,25 +269,25 @@ above_zero : (x : ℕ) → eqb x 0 ≡ false → 0 < x
 above_zero x e = omega (arith, eqb-false x 0 e)
 
 module _ (ns : List Network) (n : Network) (x y z : ℕ) (hx : x < 65536) (hy : y < 65536) (hz : z < 65536) where
-  times-led : Base ns n → Link ns n.transceiver → 0 < n.count → (bytes : List ℕ → List ℕ) → ((l : List ℕ) →
+  times_led : Base ns n → Link ns n.transceiver → 0 < n.count → (bytes : List ℕ → List ℕ) → ((l : List ℕ) →
       byte_field 1 n.handle (encode_controllers (controllers_of n) (encode_transceiver n.transceiver (times_field x y z l))) ≡ bytes l) →
       Led ns bytes (on_times n Fitted x y z)
   unfolding on_times encode_part add_times
-  times-led b k c bytes e =
+  times_led b k c bytes e =
       split (Led ns bytes) (eqb x 0) (λ p. tt)
       (λ p. split (Led ns bytes) (eqb y 0) (λ q. tt)
       (λ q. split (Led ns bytes) (eqb z 0) (λ r. tt)
       (λ r. ((base_kept ns n (add_times n x y z) refl refl refl refl b, k, c, ((above_zero x p, hx), (above_zero y q, hy), (above_zero z r, hz))), e))))
 
-  times-leads : (progress : Progress) → Part ns progress n → Led ns (λ l. encode_part progress n (times_field x y z l)) (on_times n progress x y z)
+  times_leads : (progress : Progress) → Part ns progress n → Led ns (λ l. encode_part progress n (times_field x y z l)) (on_times n progress x y z)
   unfolding on_times encode_part
-  times-leads Named p = tt
-  times-leads Listed p =
-      times-led p.0 (no_link ns n.transceiver p.1) p.2 _ (λ l. ap (λ (k : List ℕ). byte_field 1
+  times_leads Named p = tt
+  times_leads Listed p =
+      times_led p.0 (no_link ns n.transceiver p.1) p.2 _ (λ l. ap (λ (k : List ℕ). byte_field 1
       n.handle (encode_controllers (controllers_of n) k)) (no_transceiver n.transceiver (times_field x y z l) p.1))
-  times-leads Fitted p = times-led p.0 p.1 p.2 _ (λ l. refl)
-  times-leads Timed p = tt
-  times-leads Limited p = tt
+  times_leads Fitted p = times_led p.0 p.1 p.2 _ (λ l. refl)
+  times_leads Timed p = tt
+  times_leads Limited p = tt
 
 -- ---- field 05
 threshold_leads : (ns : List Network) (n : Network) (progress : Progress) (x : ℕ) →
@@ -356,7 +356,7 @@ by_entry ns n progress tag v (Entry.Controller x) m p =
 by_entry ns n progress tag v (Entry.Transceiver x) m p =
     led_same ns (encode_part progress n) (on_transceiver (settings_of ns) n progress x) m (transceiver_leads ns n progress x p)
 by_entry ns n progress tag v (Entry.Times x y z) m p =
-    led_same ns (encode_part progress n) (on_times n progress x y z) m.3 (times-leads ns n x y z m.0 m.1 m.2 progress p)
+    led_same ns (encode_part progress n) (on_times n progress x y z) m.3 (times_leads ns n x y z m.0 m.1 m.2 progress p)
 by_entry ns n progress tag v (Entry.Threshold x) m p =
     led_same ns (encode_part progress n) (on_threshold n progress x) m (threshold_leads ns n progress x p)
 by_entry ns n progress tag v (Entry.Partial x) m p =
@@ -477,12 +477,12 @@ Same l = l
 
 closed_told : (ns : List Network) (at : ℕ) → SoFar ns → length ns ≤ 8 → Told ns Same (stop at) (closed (settings_of ns) at)
 unfolding closed bytes_of encode
-closed_told ns at s h = by-test (eqb (length ns) 0) refl
+closed_told ns at s h = by_test (eqb (length ns) 0) refl
   where
-    by-test : (b : Bool) → eqb (length ns) 0 ≡ b → Told ns Same
+    by_test : (b : Bool) → eqb (length ns) 0 ≡ b → Told ns Same
         (stop at) (cond b (refused_at Empty 0) (let r : Reading = record { answer = Accepted; place = at; settings = settings_of ns } in r))
-    by-test true q = refused_told ns Same (stop at) Empty 0
-    by-test false q = λ e. (so_far_good ns s h (eqb-false (length ns) 0 q), tt, ap (λ (l : List Network). encode_networks l []) (networks_of_lem ns))
+    by_test true q = refused_told ns Same (stop at) Empty 0
+    by_test false q = λ e. (so_far_good ns s h (eqb-false (length ns) 0 q), tt, ap (λ (l : List Network). encode_networks l []) (networks_of_lem ns))
 
 abbrev NetworkTold : Row → List Network → Type 0
 NetworkTold row ns =
@@ -554,23 +554,23 @@ opening_told Amends entry at tag v row ns p s h net sh =
 mutual
   unfolding sheet network
 
-  sheet-told : (row : Row) → ByteRow row → SheetTold row
-  sheet-told (stop at) w = λ ns s h. closed_told ns at s h
-  sheet-told (stub at tag) w = λ ns s h. refused_told ns Same (stub at tag) Cut at
-  sheet-told (overrun at tag k) w = λ ns s h. refused_told ns Same (overrun at tag k) (overrun_fault (layout_of tag k)) _
-  sheet-told (field at tag v row) w =
+  sheet_told : (row : Row) → ByteRow row → SheetTold row
+  sheet_told (stop at) w = λ ns s h. closed_told ns at s h
+  sheet_told (stub at tag) w = λ ns s h. refused_told ns Same (stub at tag) Cut at
+  sheet_told (overrun at tag k) w = λ ns s h. refused_told ns Same (overrun at tag k) (overrun_fault (layout_of tag k)) _
+  sheet_told (field at tag v row) w =
       λ ns s h. opening_told (opens (settings_of ns) (field_entry tag v)) (field_entry tag v) at tag v row ns
-      (entry_starts ns tag v (field_entry tag v) (entry_means tag v w.0)) s h (λ k. network-told row w.1 ns s k) (sheet-told row w.1)
+      (entry_starts ns tag v (field_entry tag v) (entry_means tag v w.0)) s h (λ k. network_told row w.1 ns s k) (sheet_told row w.1)
 
-  network-told : (row : Row) → ByteRow row → (ns : List Network) → SoFar ns → length ns < 8 → NetworkTold row ns
-  network-told (stop at) w = λ ns s h n progress p. refused_told ns (encode_part progress n) (stop at) Cut at
-  network-told (stub at tag) w = λ ns s h n progress p. refused_told ns (encode_part progress n) (stub at tag) Cut at
-  network-told (overrun at tag k) w =
+  network_told : (row : Row) → ByteRow row → (ns : List Network) → SoFar ns → length ns < 8 → NetworkTold row ns
+  network_told (stop at) w = λ ns s h n progress p. refused_told ns (encode_part progress n) (stop at) Cut at
+  network_told (stub at tag) w = λ ns s h n progress p. refused_told ns (encode_part progress n) (stub at tag) Cut at
+  network_told (overrun at tag k) w =
       λ ns s h n progress p. refused_told ns (encode_part progress n) (overrun at tag k) (overrun_fault (layout_of tag k)) _
-  network-told (field at tag v row) w =
+  network_told (field at tag v row) w =
       λ ns s h n progress p. move_told (fills (settings_of ns) n progress (field_entry tag v)).filling
       (fills (settings_of ns) n progress (field_entry tag v)).network (field_entry tag v) at tag v row ns (encode_part progress n) s h
-      (by_entry ns n progress tag v (field_entry tag v) (entry_means tag v w.0) p) (network-told row w.1 ns s h) (sheet-told row w.1)
+      (by_entry ns n progress tag v (field_entry tag v) (entry_means tag v w.0) p) (network_told row w.1 ns s h) (sheet_told row w.1)
 
 -- ---- the whole sheet
 nothing_yet : SoFar []
@@ -580,7 +580,7 @@ nothing_yet = record { in_range = tt; handles = tt; controllers = tt; transceive
 module _ (b : List ℕ) (w : Bytes b) (e : (decode b).answer ≡ Accepted) where
   told : Good (decode b).settings × Ends (row_at b 0) × (encode (decode b).settings ≡ bytes_of (row_at b 0))
   unfolding read_from blank_settings encode_networks
-  told = sheet-told (row_at b 0) (bytes_row 0 b w) [] nothing_yet (omega arith) e
+  told = sheet_told (row_at b 0) (bytes_row 0 b w) [] nothing_yet (omega arith) e
 
   -- the settings of an accepted sheet are good
   pub accepted_good : Good (decode b).settings

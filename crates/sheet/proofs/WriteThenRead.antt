@@ -4,8 +4,8 @@ use Rattle.lists.proofs.Basics.{◌∷◌, ◌++◌, append-nil, append_assoc, B
 use Rattle.lists.proofs.Basics.{take-append_seam, set, get_or}
 use native.Mathlib.Nat.{zero-add}
 use Rattle.lists.specs.Lists.{padded}
-use Rattle.lists.proofs.Any.{any-append-left, any-append-right, lastly-snoc}
-use Rattle.lists.proofs.Parts.{padded-set, padded-last, padded-set-last, padded-count}
+use Rattle.lists.proofs.Any.{any_append_left, any_append_right, lastly_snoc}
+use Rattle.lists.proofs.Parts.{padded_set, padded_last, padded_set_last, padded_count}
 use Rattle.fields.specs.Fields.{Row, field, rows, field_bytes}
 use Rattle.fields.proofs.Laws.{rows_field}
 use Rattle.settings.specs.declared.Transceiver.{Transceiver}
@@ -61,7 +61,7 @@ controllers_of_lem h cs = take-append_seam cs (replicate (4 - length cs) 0)
 
 pub push : (ns : List Network) (n : Network) → length ns < 8 → pushed (settings_of ns) n ≡ settings_of (ns ++ (n ∷ []))
 unfolding pushed
-push ns n h = λ i. record { networks = padded-set 8 blank_network n ns h i; count = sym (length-append ns (n ∷ [])) i }
+push ns n h = λ i. record { networks = padded_set 8 blank_network n ns h i; count = sym (length-append ns (n ∷ [])) i }
 
 -- field 07 is that of the last network
 pub amend : (ns : List Network) (n : Network) → amended (settings_of (ns ++ (n ∷ []))) ≡ settings_of (ns ++ (add_relation n ∷ []))
@@ -74,8 +74,8 @@ amend ns n =
     λ i. record {
       networks =
           (ap (λ (k : ℕ). set slots k (add_relation (get_or slots k blank_network))) place
-          ∙ ap (λ (m : Network). set slots (length ns) (add_relation m)) (padded-last 8 blank_network n blank_network ns)
-          ∙ padded-set-last 8 blank_network n (add_relation n) ns) i;
+          ∙ ap (λ (m : Network). set slots (length ns) (add_relation m)) (padded_last 8 blank_network n blank_network ns)
+          ∙ padded_set_last 8 blank_network n (add_relation n) ns) i;
       count = (counted ∙ sym (length-append ns (add_relation n ∷ []))) i;
     }
 
@@ -84,7 +84,7 @@ unfolding add_controller
 add_controller_lem h c cs k =
     λ i. record {
       handle = h;
-      controllers = padded-set 4 0 c cs k i;
+      controllers = padded_set 4 0 c cs k i;
       count = sym (length-append cs (c ∷ [])) i;
       transceiver = Absent;
       short = 0;
@@ -132,47 +132,47 @@ takes_partial_lem S N false h = refl
 takes_partial_lem S N true h = rw (h refl) refl
 
 module _ (ns : List Network) where
-  takes-transceiver : (N : Network) (v : ℕ) →
+  takes_transceiver_lem : (N : Network) (v : ℕ) →
       v < 8 → member v (all transceivers_of ns) ≡ false → fills (settings_of ns) N Listed (field_entry 3 (v ∷ [])) ≡ more Fitted (add_transceiver N v)
   unfolding fills on_transceiver field_entry layout_of whole_entry byte_entry
-  takes-transceiver N v h e = rw (lt-leb 8 v h, networks_of_lem ns, used_transceiver v ns, e) refl
+  takes_transceiver_lem N v h e = rw (lt-leb 8 v h, networks_of_lem ns, used_transceiver v ns, e) refl
 
-  opens-handle : (v : ℕ) → member v (all handles_of ns) ≡ false → length ns < 8 → opens (settings_of ns) (field_entry 1 (v ∷ [])) ≡ Begins v
+  opens_handle : (v : ℕ) → member v (all handles_of ns) ≡ false → length ns < 8 → opens (settings_of ns) (field_entry 1 (v ∷ [])) ≡ Begins v
   unfolding opens opens_with field_entry layout_of whole_entry byte_entry
-  opens-handle v e h = rw (networks_of_lem ns, used_handle v ns, e, lt-leb 8 (length ns) h) refl
+  opens_handle v e h = rw (networks_of_lem ns, used_handle v ns, e, lt-leb 8 (length ns) h) refl
 
-  takes-controller : (h : ℕ) (cs : List ℕ) (P : Progress) (c : ℕ) → takes_controller P ≡ true → c < 32 → member c (all controllers_of ns ++ cs)
+  takes_controller_lem : (h : ℕ) (cs : List ℕ) (P : Progress) (c : ℕ) → takes_controller P ≡ true → c < 32 → member c (all controllers_of ns ++ cs)
       ≡ false → length cs < 4 → fills (settings_of ns) (part_of h cs) P (field_entry 2 (c ∷ [])) ≡ more Listed (part_of h (cs ++ (c ∷ [])))
   unfolding fills on_controller field_entry layout_of whole_entry byte_entry
-  takes-controller h cs P c p k e l =
-      let f = any-append-left _ (all controllers_of ns) cs e in let g = any-append-right _ (all controllers_of ns) cs e in
+  takes_controller_lem h cs P c p k e l =
+      let f = any_append_left _ (all controllers_of ns) cs e in let g = any_append_right _ (all controllers_of ns) cs e in
       rw (p, lt-leb 32 c k, networks_of_lem ns, used_controller c ns, f, controllers_of_lem h cs, g, lt-leb 4 (length cs) l, add_controller_lem h c cs l) refl
 
   -- ---- the fields one after the other
-  controllers-run : (h : ℕ) (pre cs : List ℕ) (at : ℕ) (l : List ℕ) →
+  controllers_run : (h : ℕ) (pre cs : List ℕ) (at : ℕ) (l : List ℕ) →
       Below 32 cs → Fresh (all controllers_of ns ++ pre) cs → length pre + length cs ≤ 4 → network (rows 0 at (encode_controllers cs l))
       (settings_of ns) (part_of h pre) Listed ≡ network (rows 0 (at + 4 * length cs) l) (settings_of ns) (part_of h (pre ++ cs)) Listed
   unfolding encode_controllers Below Fresh
-  controllers-run h pre [] at l b f k = rw append-nil (ap (λ (n : ℕ). network (rows 0 n l) (settings_of ns) (part_of h pre) Listed) (omega arith))
-  controllers-run h pre (c ∷ cs) at l b f k =
+  controllers_run h pre [] at l b f k = rw append-nil (ap (λ (n : ℕ). network (rows 0 n l) (settings_of ns) (part_of h pre) Listed) (omega arith))
+  controllers_run h pre (c ∷ cs) at l b f k =
       let j : length (pre ++ (c ∷ [])) + length cs ≤ 4 = simp length-append (omega arith) in
       let g : Fresh (all controllers_of ns ++ (pre ++ (c ∷ []))) cs =
       subst (λ (k : List ℕ). Fresh k cs) (append_assoc (all controllers_of ns) pre (c ∷ [])) f.1 in
       goes_on at 2 (c ∷ []) (encode_controllers cs l)
-      (settings_of ns) (part_of h pre) (part_of h (pre ++ (c ∷ []))) Listed Listed (takes-controller h pre Listed c refl b.0 f.0 (omega arith))
-      ∙ controllers-run h (pre ++ (c ∷ [])) cs (at + 3 + 1) l b.1 g j
+      (settings_of ns) (part_of h pre) (part_of h (pre ++ (c ∷ []))) Listed Listed (takes_controller_lem h pre Listed c refl b.0 f.0 (omega arith))
+      ∙ controllers_run h (pre ++ (c ∷ [])) cs (at + 3 + 1) l b.1 g j
       ∙ rw (append_snoc pre c cs) (ap (λ (n : ℕ). network (rows 0 n l) (settings_of ns) (part_of h (pre ++ c ∷ cs)) Listed) (omega arith))
 
   -- the first controller, from the handle on
-  controllers-first : (h : ℕ) (cs : List ℕ) (at : ℕ) (l : List ℕ) →
+  controllers_first : (h : ℕ) (cs : List ℕ) (at : ℕ) (l : List ℕ) →
       0 < length cs → length cs ≤ 4 → Below 32 cs → Fresh (all controllers_of ns) cs → network (rows 0 at (encode_controllers cs l))
       (settings_of ns) (part_of h []) Named ≡ network (rows 0 (at + 4 * length cs) l) (settings_of ns) (part_of h cs) Listed
   unfolding encode_controllers Below Fresh
-  controllers-first h [] at l p k b f = absurd (omega arith)
-  controllers-first h (c ∷ cs) at l p k b f =
+  controllers_first h [] at l p k b f = absurd (omega arith)
+  controllers_first h (c ∷ cs) at l p k b f =
       goes_on at 2 (c ∷ []) (encode_controllers cs l)
-      (settings_of ns) (part_of h []) (part_of h (c ∷ [])) Named Listed (takes-controller h [] Named c refl b.0 (rw append-nil f.0) (omega arith))
-      ∙ controllers-run h (c ∷ []) cs (at + 3 + 1) l b.1 f.1 (omega arith)
+      (settings_of ns) (part_of h []) (part_of h (c ∷ [])) Named Listed (takes_controller_lem h [] Named c refl b.0 (rw append-nil f.0) (omega arith))
+      ∙ controllers_run h (c ∷ []) cs (at + 3 + 1) l b.1 f.1 (omega arith)
       ∙ ap (λ (n : ℕ). network (rows 0 n l) (settings_of ns) (part_of h (c ∷ cs)) Listed) (omega arith)
 
   -- the times, the threshold and the last field, from a network N that has its controllers and its transceiver
@@ -180,14 +180,14 @@ module _ (ns : List Network) where
     abbrev finished : Network
     finished = add_partial (add_threshold (add_times N x y z) w) b
 
-    still-present : (b ≡ true → present N.transceiver ≡ true) → b ≡ true → present (add_threshold (add_times N x y z) w).transceiver ≡ true
+    still_present : (b ≡ true → present N.transceiver ≡ true) → b ≡ true → present (add_threshold (add_times N x y z) w).transceiver ≡ true
     unfolding add_threshold add_times
-    still-present h e = h e
+    still_present h e = h e
 
-    end-run : (at : ℕ) (l : List ℕ) → 0 < x → 0 < y → 0 < z → w < 255 → (b ≡ true → present N.transceiver ≡ true) → network (rows 0 at (times_field
+    end_run : (at : ℕ) (l : List ℕ) → 0 < x → 0 < y → 0 < z → w < 255 → (b ≡ true → present N.transceiver ≡ true) → network (rows 0 at (times_field
         x y z (byte_field 5 w (byte_field 6 (bit b) l)))) (settings_of ns) N P ≡ sheet (rows 0 (at + 17) l) (pushed (settings_of ns) finished)
     unfolding six
-    end-run at l hx hy hz hw hb =
+    end_run at l hx hy hz hw hb =
         let S : Settings = settings_of ns in
         let l6 : List ℕ = byte_field 6 (bit b) l in
         let l5 : List ℕ = byte_field 5 w l6 in
@@ -195,7 +195,7 @@ module _ (ns : List Network) where
         let N5 : Network = add_threshold N4 w in
         goes_on at 4 (six x y z) l5 S N N4 P Timed (takes_times_lem S N P x y z q hx hy hz)
         ∙ goes_on (at + 3 + 6) 5 (w ∷ []) l6 S N4 N5 Timed Limited (takes_threshold_lem S N4 w hw)
-        ∙ is_whole (at + 3 + 6 + 3 + 1) 6 (bit b ∷ []) l S N5 (add_partial N5 b) Limited (takes_partial_lem S N5 b (still-present hb))
+        ∙ is_whole (at + 3 + 6 + 3 + 1) 6 (bit b ∷ []) l S N5 (add_partial N5 b) Limited (takes_partial_lem S N5 b (still_present hb))
         ∙ ap (λ (n : ℕ). sheet (rows 0 n l) (pushed S finished)) (omega arith)
 
 -- ---- a whole network
@@ -225,47 +225,47 @@ related AtOrAbove n = add_relation n
 
 -- ---- field 07
 module _ (ns : List Network) where
-  opens-relation : (n : Network) → n.relation ≡ Above → opens (settings_of (ns ++ (n ∷ []))) (field_entry 7 (1 ∷ [])) ≡ Amends
+  opens_relation : (n : Network) → n.relation ≡ Above → opens (settings_of (ns ++ (n ∷ []))) (field_entry 7 (1 ∷ [])) ≡ Amends
   unfolding opens on_relation takes_relation field_entry layout_of whole_entry byte_entry
-  opens-relation n e = rw (networks_of_lem (ns ++ (n ∷ [])), lastly-snoc (λ (m : Network). is_above m.relation) ns n, e) refl
+  opens_relation n e = rw (networks_of_lem (ns ++ (n ∷ [])), lastly_snoc (λ (m : Network). is_above m.relation) ns n, e) refl
 
-  relation-run : (n : Network) (r : Relation) (at : ℕ) (l : List ℕ) → n.relation ≡ Above → sheet (rows 0 at (encode_relation r l))
+  relation_run : (n : Network) (r : Relation) (at : ℕ) (l : List ℕ) → n.relation ≡ Above → sheet (rows 0 at (encode_relation r l))
       (settings_of (ns ++ (n ∷ []))) ≡ sheet (rows 0 (at + length (encode_relation r [])) l) (settings_of (ns ++ (related r n ∷ [])))
   unfolding sheet after_opening encode_relation
-  relation-run n Above at l e = ap (λ (k : ℕ). sheet (rows 0 k l) (settings_of (ns ++ (n ∷ [])))) (omega arith)
-  relation-run n AtOrAbove at l e =
+  relation_run n Above at l e = ap (λ (k : ℕ). sheet (rows 0 k l) (settings_of (ns ++ (n ∷ [])))) (omega arith)
+  relation_run n AtOrAbove at l e =
       ap (λ (k : Row). sheet k (settings_of (ns ++ (n ∷ [])))) (rows_field at 7 (1 ∷ []) l)
-      ∙ rw (opens-relation n e) refl
+      ∙ rw (opens_relation n e) refl
       ∙ ap (sheet (rows 0 (at + 3 + 1) l)) (amend ns n)
       ∙ ap (λ (k : ℕ). sheet (rows 0 k l) (settings_of (ns ++ (add_relation n ∷ [])))) (omega arith)
 
 module _ (ns : List Network) where
-  transceiver-run : (h : ℕ) (cs : List ℕ) (t : Transceiver) (x y z w : ℕ) (b : Bool) (at : ℕ) (l : List ℕ)
+  transceiver_run : (h : ℕ) (cs : List ℕ) (t : Transceiver) (x y z w : ℕ) (b : Bool) (at : ℕ) (l : List ℕ)
       → Below 8 (listed t) → Fresh (all transceivers_of ns) (listed t) → 0 < x → 0 < y → 0 < z → w < 255 → (b ≡ true → present t ≡ true)
       → network (rows 0 at (encode_transceiver t (times_field x y z (byte_field 5 w (byte_field 6 (bit b) l))))) (settings_of ns) (part_of h cs) Listed
       ≡ sheet (rows 0 (at + 4 * length (listed t) + 17) l) (pushed (settings_of ns) (whole_of h cs t x y z w b Above))
   unfolding encode_transceiver add_partial add_threshold add_times add_transceiver Below Fresh
-  transceiver-run h cs Absent x y z w b at l g f hx hy hz hw hb =
-      end-run ns (part_of h cs) Listed refl x y z w b at l hx hy hz hw hb
+  transceiver_run h cs Absent x y z w b at l g f hx hy hz hw hb =
+      end_run ns (part_of h cs) Listed refl x y z w b at l hx hy hz hw hb
       ∙ ap (λ (n : ℕ). sheet (rows 0 n l) (pushed (settings_of ns) (whole_of h cs Absent x y z w b Above))) (omega arith)
-  transceiver-run h cs (Present v) x y z w b at l g f hx hy hz hw hb =
+  transceiver_run h cs (Present v) x y z w b at l g f hx hy hz hw hb =
       goes_on at 3 (v ∷ []) (times_field x y z (byte_field 5 w (byte_field 6 (bit b) l)))
-      (settings_of ns) (part_of h cs) (add_transceiver (part_of h cs) v) Listed Fitted (takes-transceiver ns (part_of h cs) v g.0 f.0)
-      ∙ end-run ns (add_transceiver (part_of h cs) v) Fitted refl x y z w b (at + 3 + 1) l hx hy hz hw hb
+      (settings_of ns) (part_of h cs) (add_transceiver (part_of h cs) v) Listed Fitted (takes_transceiver_lem ns (part_of h cs) v g.0 f.0)
+      ∙ end_run ns (add_transceiver (part_of h cs) v) Fitted refl x y z w b (at + 3 + 1) l hx hy hz hw hb
       ∙ ap (λ (n : ℕ). sheet (rows 0 n l) (pushed (settings_of ns) (whole_of h cs (Present v) x y z w b Above))) (omega arith)
 
   -- a network as it is read up to field 06
-  abbrev sixOf : Network → Relation → Network
-  sixOf n r = whole_of n.handle (controllers_of n) n.transceiver n.short n.long n.ensure n.threshold n.partial r
+  abbrev six_of : Network → Relation → Network
+  six_of n r = whole_of n.handle (controllers_of n) n.transceiver n.short n.long n.ensure n.threshold n.partial r
 
-  six-related : (n : Network) (r : Relation) → related r (sixOf n Above) ≡ sixOf n r
+  six_related : (n : Network) (r : Relation) → related r (six_of n Above) ≡ six_of n r
   unfolding add_relation
-  six-related n Above = refl
-  six-related n AtOrAbove = refl
+  six_related n Above = refl
+  six_related n AtOrAbove = refl
 
-  whole-of : (n : Network) → InRange n → related n.relation (sixOf n Above) ≡ n
-  whole-of n g =
-      six-related n n.relation
+  whole_of_lem : (n : Network) → InRange n → related n.relation (six_of n Above) ≡ n
+  whole_of_lem n g =
+      six_related n n.relation
       ∙ λ i. record {
         handle = n.handle;
         controllers = sym g.blank_slots i;
@@ -283,11 +283,11 @@ module _ (ns : List Network) where
   size : Network → ℕ
   size n = 4 + 4 * length (controllers_of n) + 4 * length (transceivers_of n) + 17 + length (encode_relation n.relation [])
 
-  network-run : (n : Network) (at : ℕ) (l : List ℕ) → InRange n → length ns < 8
+  network_run : (n : Network) (at : ℕ) (l : List ℕ) → InRange n → length ns < 8
       → Fresh (all handles_of ns) (handles_of n) → Fresh (all controllers_of ns) (controllers_of n) → Fresh (all transceivers_of ns) (transceivers_of n)
       → sheet (rows 0 at (encode_network n l)) (settings_of ns) ≡ sheet (rows 0 (at + size n) l) (settings_of (ns ++ (n ∷ [])))
   unfolding encode_network sheet after_opening begun size Fresh
-  network-run n at l g h fh fc ft =
+  network_run n at l g h fh fc ft =
       let r2 : List ℕ = encode_relation n.relation l in
       let r1 : List ℕ = encode_transceiver
       n.transceiver (times_field n.short n.long n.ensure (byte_field 5 n.threshold (byte_field 6 (bit n.partial) r2))) in
@@ -296,14 +296,14 @@ module _ (ns : List Network) where
       let a1 : ℕ = at + 3 + 1 + 4 * length (controllers_of n) in
       let a2 : ℕ = a1 + 4 * length (transceivers_of n) + 17 in
       ap (λ (r : Row). sheet r (settings_of ns)) (rows_field at 1 (n.handle ∷ []) r0)
-      ∙ rw (opens-handle ns n.handle fh.0 h) refl
-      ∙ controllers-first ns
+      ∙ rw (opens_handle ns n.handle fh.0 h) refl
+      ∙ controllers_first ns
       n.handle (controllers_of n) (at + 3 + 1) r1 (omega (arith, g.some_controller)) (omega (arith, g.few_controllers)) g.controllers fc
-      ∙ transceiver-run n.handle (controllers_of n) n.transceiver n.short n.long n.ensure n.threshold n.partial a1 r2
+      ∙ transceiver_run n.handle (controllers_of n) n.transceiver n.short n.long n.ensure n.threshold n.partial a1 r2
       g.transceiver ft g.short.0 g.long.0 g.ensure.0 g.threshold (has_present n.transceiver n.partial g.partial)
-      ∙ ap (sheet (rows 0 a2 r2)) (push ns (sixOf n Above) h)
-      ∙ relation-run ns (sixOf n Above) n.relation a2 l refl
-      ∙ rw (whole-of n g) (ap (λ (k : ℕ). sheet (rows 0 k l) (settings_of (ns ++ (n ∷ [])))) (omega arith))
+      ∙ ap (sheet (rows 0 a2 r2)) (push ns (six_of n Above) h)
+      ∙ relation_run ns (six_of n Above) n.relation a2 l refl
+      ∙ rw (whole_of_lem n g) (ap (λ (k : ℕ). sheet (rows 0 k l) (settings_of (ns ++ (n ∷ [])))) (omega arith))
 
 length_size : (ns : List Network) (n : Network) (l : List ℕ) → length (encode_network n l) ≡ size ns n + length l
 unfolding size
@@ -334,7 +334,7 @@ first_run : (ns : List Network) (n : Network) (rest : List Network) (at : ℕ) (
     → sheet (rows 0 at (encode_network n l)) (settings_of ns) ≡ sheet (rows 0 (at + size ns n) l) (settings_of (ns ++ (n ∷ [])))
 unfolding EachInRange all
 first_run ns n rest at l g h =
-    network-run ns n at l g.in_range.0 h
+    network_run ns n at l g.in_range.0 h
     (fresh_left _ (handles_of n) (all handles_of rest) g.handles)
     (fresh_left _ (controllers_of n) (all controllers_of rest) g.controllers)
     (fresh_left _ (transceivers_of n) (all transceivers_of rest) g.transceivers)
@@ -352,21 +352,21 @@ networks_run ns (n ∷ rest) at g h =
     ∙ rw (append_snoc ns n rest) (ap (closed (settings_of (ns ++ n ∷ rest))) (omega arith))
 
 module _ (s : Settings) (g : Good s) where
-  networks-count : length (networks_of s) ≡ s.count
-  networks-count = padded-count 8 blank_network s.networks s.count g.few_networks g.blank_slots
+  networks_count : length (networks_of s) ≡ s.count
+  networks_count = padded_count 8 blank_network s.networks s.count g.few_networks g.blank_slots
 
-  same-settings : settings_of (networks_of s) ≡ s
-  same-settings = λ i. record { networks = sym g.blank_slots i; count = networks-count i }
+  same_settings : settings_of (networks_of s) ≡ s
+  same_settings = λ i. record { networks = sym g.blank_slots i; count = networks_count i }
 
-  all-coming : Coming [] (networks_of s)
+  all_coming : Coming [] (networks_of s)
   unfolding all
-  all-coming = record { in_range = g.in_range; handles = g.handles; controllers = g.controllers; transceivers = g.transceivers }
+  all_coming = record { in_range = g.in_range; handles = g.handles; controllers = g.controllers; transceivers = g.transceivers }
 
   -- what is read from a written sheet is the settings that were written, with the sheet's length as place
   pub write_then_read : decode (encode s) ≡ (let r : Reading = record { answer = Accepted; place = length (encode s); settings = s } in r)
   unfolding read_from encode blank_settings closed
   write_then_read =
-      let u : length (networks_of s) ≡ s.count = networks-count in
-      networks_run [] (networks_of s) 0 all-coming (omega (arith, g.few_networks))
+      let u : length (networks_of s) ≡ s.count = networks_count in
+      networks_run [] (networks_of s) 0 all_coming (omega (arith, g.few_networks))
       ∙ rw (ne_eqb (length (networks_of s)) 0 (λ e. omega (arith, g.some_network)))
-      (λ i. record { answer = Accepted; place = zero-add (length (encode_networks (networks_of s) [])) i; settings = same-settings i })
+      (λ i. record { answer = Accepted; place = zero-add (length (encode_networks (networks_of s) [])) i; settings = same_settings i })

@@ -1,7 +1,7 @@
 -- Laws of a sheet as bytes: its parts come one after the other, their lengths, and what writing them into a buffer gives.
 use Rattle.lists.proofs.Basics.{ℕ, ◌+◌, ◌*◌, ◌≤◌, ◌<◌, arith, le-leb, ◌≡◌, refl, sym, ap, ◌∙◌, List, [], ◌∷◌, ◌++◌, append_assoc, length, drop, sets}
 use Rattle.lists.proofs.Basics.{sets-eq, lt-leb}
-use Rattle.lists.proofs.Parts.{padded-count}
+use Rattle.lists.proofs.Parts.{padded_count}
 use Rattle.settings.specs.declared.Transceiver.{Transceiver}
 use Rattle.settings.specs.declared.Transceiver.TheVariants.{Absent, Present}
 use Rattle.settings.specs.declared.Relation.{Relation}
@@ -125,7 +125,7 @@ length_networks [] r = (omega arith, omega arith)
 length_networks (n ∷ ns) r =
     let e = length_networks ns r.1 in
     let k : length (controllers_of n) ≡ n.count =
-    padded-count most_controllers 0 n.controllers n.count r.0.few_controllers r.0.blank_slots in
+    padded_count most_controllers 0 n.controllers n.count r.0.few_controllers r.0.blank_slots in
     let h = r.0.some_controller in
     let m = r.0.few_controllers in
     let l = length_network n (encode_networks ns []) in
@@ -136,7 +136,7 @@ pub encode_length : (s : Settings) → Good s → (25 ≤ length (encode s)) × 
 unfolding encode
 encode_length s g =
     let e = length_networks (networks_of s) g.in_range in
-    let k : length (networks_of s) ≡ s.count = padded-count most_networks blank_network s.networks s.count g.few_networks g.blank_slots in
+    let k : length (networks_of s) ≡ s.count = padded_count most_networks blank_network s.networks s.count g.few_networks g.blank_slots in
     let h = g.some_network in
     let m = g.few_networks in
     (omega arith, omega arith)
@@ -144,15 +144,15 @@ encode_length s g =
 -- ---- written and buffer_after
 module _ (s : Settings) (b : List ℕ) where
   -- a buffer that is too short is refused and stays as it is
-  pub refused-untouched : length b < length (encode s) → (Short ≡ written s b) × (b ≡ buffer_after s b)
+  pub refused_untouched : length b < length (encode s) → (Short ≡ written s b) × (b ≡ buffer_after s b)
   unfolding written buffer_after
-  refused-untouched h = let t = lt-leb (length (encode s)) (length b) h in (rw t refl, rw t refl)
+  refused_untouched h = let t = lt-leb (length (encode s)) (length b) h in (rw t refl, rw t refl)
 
   -- a buffer into which the sheet was stored from the front on is as it should be
-  pub written-from-front : (n : ℕ) (after : List ℕ) →
+  pub written_from_front : (n : ℕ) (after : List ℕ) →
       n ≡ length (encode s) → n ≤ length b → after ≡ sets b 0 (encode s) → (Length n ≡ written s b) × (after ≡ buffer_after s b)
   unfolding written buffer_after
-  written-from-front n after e h p =
+  written_from_front n after e h p =
       let t = le-leb (length (encode s)) (length b) (omega arith) in
       let z : 0 + length (encode s) ≡ length (encode s) = omega arith in
       (rw t (ap Length e), rw t (p ∙ sets-eq (encode s) b 0 (omega arith) ∙ ap (λ (k : ℕ). encode s ++ drop k b) z))

@@ -21,21 +21,21 @@ relation_field value = 0x07 ∷ 0 ∷ 1 ∷ value ∷ []
 -- each with the bytes that such a reader is handed, and what it gives for them
 module _ where
   -- it takes the value 0 as if the field were absent
-  pub relation-0-as-absent : WrittenAsRead (bench_sheet ++ relation_field 0) (decode bench_sheet) → ⊥
+  pub relation_0_as_absent : WrittenAsRead (bench_sheet ++ relation_field 0) (decode bench_sheet) → ⊥
   unfolding computed_reading encode_controllers encode_transceiver encode_relation encode_network encode_networks encode
-  relation-0-as-absent back = let z : ◌≡◌ {A = ℕ} 25 29 = ap length (back refl) in omega arith
+  relation_0_as_absent back = let z : ◌≡◌ {A = ℕ} 25 29 = ap length (back refl) in omega arith
 
   -- it takes field 07 before field 06
-  pub relation-before-partial : WrittenAsRead (take 21 bench_sheet ++ (relation_field 1 ++ drop 21 bench_sheet)) (decode newer_sheet) → ⊥
+  pub relation_before_partial : WrittenAsRead (take 21 bench_sheet ++ (relation_field 1 ++ drop 21 bench_sheet)) (decode newer_sheet) → ⊥
   unfolding computed_reading encode_controllers encode_transceiver encode_relation encode_network encode_networks encode
-  relation-before-partial back = let z : ◌≡◌ {A = ℕ} 6 7 = ap (λ (l : List ℕ). get_or l 21 0) (back refl) in omega arith
+  relation_before_partial back = let z : ◌≡◌ {A = ℕ} 6 7 = ap (λ (l : List ℕ). get_or l 21 0) (back refl) in omega arith
 
   -- it passes over a second field 07
-  pub second-relation-passed-over : WrittenAsRead (newer_sheet ++ relation_field 1) (decode newer_sheet) → ⊥
+  pub second_relation_passed_over : WrittenAsRead (newer_sheet ++ relation_field 1) (decode newer_sheet) → ⊥
   unfolding computed_reading encode_controllers encode_transceiver encode_relation encode_network encode_networks encode
-  second-relation-passed-over back = let z : ◌≡◌ {A = ℕ} 29 33 = ap length (back refl) in omega arith
+  second_relation_passed_over back = let z : ◌≡◌ {A = ℕ} 29 33 = ap length (back refl) in omega arith
 
   -- it passes over field 07 altogether, as if the network followed the older relation
-  pub relation-forgotten : WrittenAsRead newer_sheet (decode bench_sheet) → ⊥
+  pub relation_forgotten : WrittenAsRead newer_sheet (decode bench_sheet) → ⊥
   unfolding computed_reading encode_controllers encode_transceiver encode_relation encode_network encode_networks encode
-  relation-forgotten back = let z : ◌≡◌ {A = ℕ} 25 29 = ap length (back refl) in omega arith
+  relation_forgotten back = let z : ◌≡◌ {A = ℕ} 25 29 = ap length (back refl) in omega arith

@@ -12,41 +12,41 @@ use Rattle.sheet.specs.Pointing.{BadNumber, NumberHere, Points}
 -- ---- no number that is out of its range stands at a place, by the bytes before it
 module _ (b : List ℕ) (place : ℕ) where
   -- the tag of a number that stands so far behind it
-  tag-before : (at tag k : ℕ) → get_or b at 0 ≡ tag → place ≡ at + k → get_or b (place - k) 0 ≡ tag
-  tag-before at tag k t e = let same : at ≡ place - k = omega arith in subst (λ (i : ℕ). get_or b i 0 ≡ tag) same t
+  tag_before : (at tag k : ℕ) → get_or b at 0 ≡ tag → place ≡ at + k → get_or b (place - k) 0 ≡ tag
+  tag_before at tag k t e = let same : at ≡ place - k = omega arith in subst (λ (i : ℕ). get_or b i 0 ≡ tag) same t
 
   -- no tag with a number stands three bytes before it, field 04 does not begin five before it nor, with a short delay other than 0, seven
   nowhere : get_or b (place - 3) 0 < 2 → (get_or b (place - 5) 0 ≡ 4 → ⊥) → (get_or b (place - 7) 0 ≡ 4 → wide b (place - 4) ≡ 0) → NumberHere b place → ⊥
   nowhere none no-long no-ensure h = by_number_lem h.at h.number
     where
       by_number_lem : (at : ℕ) → BadNumber b at place → ⊥
-      by_number_lem at (controller_id t e n) = let k = tag-before at _ _ t e in omega arith
-      by_number_lem at (transceiver_id t e n) = let k = tag-before at _ _ t e in omega arith
-      by_number_lem at (short_delay t e n) = let k = tag-before at _ _ t e in omega arith
-      by_number_lem at (long_delay t e m n) = no-long (tag-before at _ _ t e)
+      by_number_lem at (controller_id t e n) = let k = tag_before at _ _ t e in omega arith
+      by_number_lem at (transceiver_id t e n) = let k = tag_before at _ _ t e in omega arith
+      by_number_lem at (short_delay t e n) = let k = tag_before at _ _ t e in omega arith
+      by_number_lem at (long_delay t e m n) = no-long (tag_before at _ _ t e)
       by_number_lem at (ensure_time t e l m n) =
-          let same : place - 4 ≡ at + 3 = omega arith in l (subst (λ (i : ℕ). wide b i ≡ 0) same (no-ensure (tag-before at _ _ t e)))
-      by_number_lem at (threshold t e n) = let k = tag-before at _ _ t e in omega arith
-      by_number_lem at (partial_networking t e n) = let k = tag-before at _ _ t e in omega arith
-      by_number_lem at (relation t e n) = let k = tag-before at _ _ t e in omega arith
+          let same : place - 4 ≡ at + 3 = omega arith in l (subst (λ (i : ℕ). wide b i ≡ 0) same (no-ensure (tag_before at _ _ t e)))
+      by_number_lem at (threshold t e n) = let k = tag_before at _ _ t e in omega arith
+      by_number_lem at (partial_networking t e n) = let k = tag_before at _ _ t e in omega arith
+      by_number_lem at (relation t e n) = let k = tag_before at _ _ t e in omega arith
 
 -- ---- each with the bytes that such a reader is handed, and the place that it gives
 module _ where
   -- S29: a short delay of 0 is told at the tag, as it was before the rule
-  pub number-at-the-tag : Points OutOfRange (set bench_sheet 12 0) 8 → ⊥
-  number-at-the-tag = nowhere (set bench_sheet 12 0) 8 (omega arith) (λ e. omega (arith, e)) (λ e. absurd (omega (arith, e)))
+  pub number_at_the_tag : Points OutOfRange (set bench_sheet 12 0) 8 → ⊥
+  number_at_the_tag = nowhere (set bench_sheet 12 0) 8 (omega arith) (λ e. omega (arith, e)) (λ e. absurd (omega (arith, e)))
 
   -- S29: it is told at the low byte
-  pub number-at-its-low-byte : Points OutOfRange (set bench_sheet 12 0) 12 → ⊥
-  number-at-its-low-byte = nowhere (set bench_sheet 12 0) 12 (omega arith) (λ e. omega (arith, e)) (λ e. absurd (omega (arith, e)))
+  pub number_at_its_low_byte : Points OutOfRange (set bench_sheet 12 0) 12 → ⊥
+  number_at_its_low_byte = nowhere (set bench_sheet 12 0) 12 (omega arith) (λ e. omega (arith, e)) (λ e. absurd (omega (arith, e)))
 
   -- S29: the short delay and the ensure time are 0, and the last of them is told
-  pub last-zero : Points OutOfRange (set (set bench_sheet 12 0) 16 0) 15 → ⊥
-  last-zero = nowhere (set (set bench_sheet 12 0) 16 0) 15 (omega arith) (λ e. omega (arith, e)) (λ e. refl)
+  pub last_zero : Points OutOfRange (set (set bench_sheet 12 0) 16 0) 15 → ⊥
+  last_zero = nowhere (set (set bench_sheet 12 0) 16 0) 15 (omega arith) (λ e. omega (arith, e)) (λ e. refl)
 
   -- S28: a length of 5 in field 04 is told at its second byte
-  pub length-at-its-second-byte : Points WrongLength (set bench_sheet 10 5) 10 → ⊥
-  length-at-its-second-byte h =
+  pub length_at_its_second_byte : Points WrongLength (set bench_sheet 10 5) 10 → ⊥
+  length_at_its_second_byte h =
       let same : h.at ≡ 9 = let e = h.here in omega arith in
       let known = subst (λ (i : ℕ). 1 ≤ get_or (set bench_sheet 10 5) i 0) same h.known.0 in
       omega (arith, known)

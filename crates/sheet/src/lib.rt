@@ -1,4 +1,6 @@
 // What reading a settings sheet and writing it give: types and definitions. The code is in `reading` and `writing`.
+#![tactic(auto)]
+
 ghost use Rattle.std.specs.Prelude.{◌≡◌};
 ghost use Rattle.sheet.specs.Numbers.{verdict_number, written_number};
 
@@ -6,7 +8,7 @@ use entries::Fault;
 use settings::Settings;
 
 // What writing a sheet gives: its length, or that the lent buffer is too short for it.
-#[derive(Drop)]
+#[derive(Clone, Copy)]
 pub enum Written {
     Short,
     Length(usize),
@@ -25,7 +27,7 @@ impl Written {
 }
 
 // What reading says of a sheet: it is accepted, or why not.
-#[derive(Drop)]
+#[derive(Clone, Copy)]
 pub enum Verdict {
     Accepted,
     Refused(Fault),
@@ -44,7 +46,7 @@ impl Verdict {
 }
 
 // What reading a sheet gives. Beside a refusal the settings are blank.
-#[derive(Drop)]
+#[derive(Clone, Copy)]
 pub struct Reading {
     pub answer: Verdict,
     pub place: usize,

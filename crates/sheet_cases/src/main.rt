@@ -1,5 +1,7 @@
 // Reads stored sheets, good and damaged, and writes what reading each gives, its settings, and the sheet written back.
 // Input: for each sheet two bytes length, high byte first, and the sheet.
+#![tactic(auto)]
+
 use fields::Field;
 use libc::STDIN_FILENO;
 use settings::{Network, Relation, Settings, Transceiver};

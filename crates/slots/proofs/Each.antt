@@ -6,11 +6,11 @@ use Rattle.network.specs.declared.State.{State}
 use Rattle.slots.specs.Manager.{each}
 
 module _ (f : Network → State → State) where
-  pub length-each : (ns : List Network) (ss : List State) → length (each f ns ss) ≡ length ss
+  pub length_each : (ns : List Network) (ss : List State) → length (each f ns ss) ≡ length ss
   unfolding each
-  length-each [] ss = refl
-  length-each (n ∷ ns) [] = refl
-  length-each (n ∷ ns) (s ∷ ss) = ap suc (length-each ns ss)
+  length_each [] ss = refl
+  length_each (n ∷ ns) [] = refl
+  length_each (n ∷ ns) (s ∷ ss) = ap suc (length_each ns ss)
 
   pub each_none : (ss : List State) → ss ≡ each f [] ss
   unfolding each

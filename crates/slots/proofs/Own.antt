@@ -15,21 +15,21 @@ use Rattle.slots.specs.Calls.{slot_of, by_slot, answer_of, settled, slot_outcome
 -- ---- a call that names an id
 module _ (m : Manager) (i : ℕ) (sight : Sight) where
   -- N16: what is taken is stored in the slot, and nothing else of the manager changes
-  pub slot-takes : is_taken (part_of (network_at m i) (state_at m i) sight).reply ≡ true → slot_outcome m i sight
+  pub slot_takes : is_taken (part_of (network_at m i) (state_at m i) sight).reply ≡ true → slot_outcome m i sight
       ≡ accepted (with_state m i (part_of (network_at m i) (state_at m i) sight).state) (length (records_of (network_at m i) (state_at m i) sight))
   unfolding slot_outcome settled
-  slot-takes e = rw e refl
+  slot_takes e = rw e refl
 
   -- R2: what is refused changes nothing
-  pub slot-declines : is_taken (part_of (network_at m i) (state_at m i) sight).reply ≡ false
+  pub slot_declines : is_taken (part_of (network_at m i) (state_at m i) sight).reply ≡ false
       → slot_outcome m i sight ≡ refused m (answer_of (part_of (network_at m i) (state_at m i) sight).reply)
   unfolding slot_outcome settled
-  slot-declines e = rw e refl
+  slot_declines e = rw e refl
 
   -- the slot that is found is the one that is asked
-  pub named-at : (id : Id) → slot_of m id ≡ Slot.At i → named m id sight ≡ slot_outcome m i sight
+  pub named_at : (id : Id) → slot_of m id ≡ Slot.At i → named m id sight ≡ slot_outcome m i sight
   unfolding named
-  named-at id e = ap (λ (slot : Slot). by_slot m slot (λ j. slot_outcome m j sight)) e
+  named_at id e = ap (λ (slot : Slot). by_slot m slot (λ j. slot_outcome m j sight)) e
 
 -- ---- each network
 -- the network of a slot in use
@@ -46,18 +46,18 @@ each_at f (n ∷ ns) (s ∷ ss) zero d e h k = refl
 each_at f (n ∷ ns) (s ∷ ss) (suc i) d e h k = each_at f ns ss i d e (omega arith) (omega arith)
 
 module _ (m : Manager) where
-  pub slot-state : length m.networks ≡ 8 → length m.states ≡ 8 → (i : ℕ) → i < length (networks_of m) → i < length m.states
-  slot-state e f i h = let t = length-take m.count m.networks in omega arith
+  pub slot_state : length m.networks ≡ 8 → length m.states ≡ 8 → (i : ℕ) → i < length (networks_of m) → i < length m.states
+  slot_state e f i h = let t = length-take m.count m.networks in omega arith
 
   -- a record that f gives, of the network and the record of its slot
-  pub each-slot : (f : Network → State → State) → length m.networks ≡ 8 → length m.states ≡ 8 → (i : ℕ) → i < length (networks_of m)
+  pub each_slot : (f : Network → State → State) → length m.networks ≡ 8 → length m.states ≡ 8 → (i : ℕ) → i < length (networks_of m)
       → get_or (each f (networks_of m) m.states) i blank_state ≡ f (network_at m i) (state_at m i)
-  each-slot f e g i h =
-      each_at f (networks_of m) m.states i blank_network blank_state h (slot-state e g i h)
+  each_slot f e g i h =
+      each_at f (networks_of m) m.states i blank_network blank_state h (slot_state e g i h)
       ∙ ap (λ (n : Network). f n (state_at m i)) (slot_network m i h)
 
   -- T1: after a tick each network has the record that follows its own
-  pub ticked-own : length m.networks ≡ 8 → length m.states ≡ 8 → (i : ℕ) → i < length (networks_of m)
+  pub ticked_own : length m.networks ≡ 8 → length m.states ≡ 8 → (i : ℕ) → i < length (networks_of m)
       → state_at (all_ticked m).manager i ≡ tick_state (network_at m i) (state_at m i)
   unfolding all_ticked
-  ticked-own e f i h = each-slot tick_state e f i h
+  ticked_own e f i h = each_slot tick_state e f i h

@@ -8,20 +8,20 @@ use Rattle.slots.specs.Manager.{share_in, summed, needs_of}
 
 -- ---- a number of each network, one by one
 module _ (f : Network → ℕ) where
-  pub summed-none : 0 ≡ summed f []
+  pub summed_none : 0 ≡ summed f []
   unfolding summed
-  summed-none = refl
+  summed_none = refl
 
-  summed-suc : (ns : List Network) (i : ℕ) (d : Network) → i < length ns → summed f (take (suc i) ns) ≡ summed f (take i ns) + f (get_or ns i d)
+  summed_suc : (ns : List Network) (i : ℕ) (d : Network) → i < length ns → summed f (take (suc i) ns) ≡ summed f (take i ns) + f (get_or ns i d)
   unfolding summed
-  summed-suc [] i d h = absurd (omega arith)
-  summed-suc (n ∷ ns) zero d h = omega arith
-  summed-suc (n ∷ ns) (suc i) d h = omega (arith, summed-suc ns i d (omega arith))
+  summed_suc [] i d h = absurd (omega arith)
+  summed_suc (n ∷ ns) zero d h = omega arith
+  summed_suc (n ∷ ns) (suc i) d h = omega (arith, summed_suc ns i d (omega arith))
 
   -- one turn of the loop that adds them
-  pub summed-more : (ns : List Network) (i : ℕ) (d : Network) →
+  pub summed_more : (ns : List Network) (i : ℕ) (d : Network) →
       i < length ns → (total one : ℕ) → total ≡ summed f (take i ns) → one ≡ f (get_or ns i d) → total + one ≡ summed f (take (i + 1) ns)
-  summed-more ns i d h total one p q = rw add-one (omega (arith, p, q, summed-suc ns i d h))
+  summed_more ns i d h total one p q = rw add-one (omega (arith, p, q, summed_suc ns i d h))
 
 -- the bytes, once the shares of all are added
 pub needs_end : (share : Share) (m : Manager) (i total : ℕ) →

@@ -1,5 +1,7 @@
 // The manager's data: its networks and their records, in eight slots; answers and outcomes; which slot an id names, the room that a call needs, and a
 // network's part lifted to its slot.
+#![tactic(auto)]
+
 mod finding;
 mod room;
 mod settling;
@@ -17,7 +19,7 @@ pub use settling::settle;
 use steps::Step;
 
 // Whether the manager has a sheet, and whether it was started.
-#[derive(Drop)]
+#[derive(Clone, Copy)]
 pub enum Stage {
     Empty,
     Loaded,
@@ -25,7 +27,7 @@ pub enum Stage {
 }
 
 // The networks of the sheet, in its order, and the record of each; unused slots are blank. L1: beside them, whether the manager listens.
-#[derive(Drop)]
+#[derive(Clone, Copy)]
 pub struct Manager {
     pub stage: Stage,
     pub listening: bool,
@@ -35,28 +37,28 @@ pub struct Manager {
 }
 
 // The slot of the network that an id names, or the refusal where there is none: 01, 03, 04 or 05.
-#[derive(Drop)]
+#[derive(Clone, Copy)]
 pub enum Slot {
     Refused(Answer),
     At(usize),
 }
 
 // Of which call it is asked how many records a network may hand out.
-#[derive(Drop)]
+#[derive(Clone, Copy)]
 pub enum Share {
     Tick,
     Listen,
 }
 
 // Whether a call that is lent a buffer for records may go on, or its refusal: 01 or 20.
-#[derive(Drop)]
+#[derive(Clone, Copy)]
 pub enum Gate {
     Refused(Answer),
     Open,
 }
 
 // What a call answers, by its rule and its number.
-#[derive(Drop)]
+#[derive(Clone, Copy)]
 pub enum Answer {
     Accepted,
     // R7: 01, the manager was not started, or has no sheet.
@@ -100,7 +102,7 @@ impl Answer {
 }
 
 // What a call gives: its answer, the next manager, a count (of records, of networks, of bytes written), the polled mode, the place.
-#[derive(Drop)]
+#[derive(Clone, Copy)]
 pub struct Outcome {
     pub answer: Answer,
     pub manager: Manager,

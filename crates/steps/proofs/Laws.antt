@@ -82,32 +82,32 @@ numbered_is number step e = sym (by_number_lem step) ∙ ap (λ (k : ℕ). numbe
 
 -- so a step that passes a test which step 6 does not pass is another one
 pub not_restarting : (step : Step) (p : Step → Bool) → p Restarting ≡ false → p step ≡ true → is_restarting step ≡ false
-not_restarting step p z e = by-test (is_restarting step) refl
+not_restarting step p z e = by_test (is_restarting step) refl
   where
-    by-test : (b : Bool) → is_restarting step ≡ b → b ≡ false
-    by-test true r = absurd (false≢true (sym z ∙ ap p (sym (numbered_is 6 step r)) ∙ e))
-    by-test false r = refl
+    by_test : (b : Bool) → is_restarting step ≡ b → b ≡ false
+    by_test true r = absurd (false≢true (sym z ∙ ap p (sym (numbered_is 6 step r)) ∙ e))
+    by_test false r = refl
 
 -- ---- decision
 module _ (wanted : Mode) (done refused reached : Bool) (outfit : Outfit) where
   -- only in the step that asks the controllers to sleep does a refusal decide
-  pub only-sleep : (step : Step) → asks_to_sleep (asks_for step) ≡ false
+  pub only_sleep : (step : Step) → asks_to_sleep (asks_for step) ≡ false
       → decision step wanted done false reached outfit ≡ decision step wanted done refused reached outfit
   unfolding decision
-  only-sleep NoCommunication e = refl
-  only-sleep TransceiverNormal e = refl
-  only-sleep ControllersStopped e = refl
-  only-sleep ControllersStarted e = refl
-  only-sleep (Checking t) e = refl
-  only-sleep Full e = refl
-  only-sleep Restarting e = refl
-  only-sleep (Waiting t) e = refl
-  only-sleep Silent e = refl
-  only-sleep ClearWake e = refl
-  only-sleep DownStopped e = refl
-  only-sleep TransceiverStandby e = refl
-  only-sleep ControllersSleep e = absurd (true≢false e)
-  only-sleep CheckWake e = refl
-  only-sleep CheckWakeAgain e = refl
-  only-sleep ResetStopped e = refl
-  only-sleep ResetStarted e = refl
+  only_sleep NoCommunication e = refl
+  only_sleep TransceiverNormal e = refl
+  only_sleep ControllersStopped e = refl
+  only_sleep ControllersStarted e = refl
+  only_sleep (Checking t) e = refl
+  only_sleep Full e = refl
+  only_sleep Restarting e = refl
+  only_sleep (Waiting t) e = refl
+  only_sleep Silent e = refl
+  only_sleep ClearWake e = refl
+  only_sleep DownStopped e = refl
+  only_sleep TransceiverStandby e = refl
+  only_sleep ControllersSleep e = absurd (true≢false e)
+  only_sleep CheckWake e = refl
+  only_sleep CheckWakeAgain e = refl
+  only_sleep ResetStopped e = refl
+  only_sleep ResetStarted e = refl

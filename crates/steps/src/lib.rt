@@ -1,4 +1,6 @@
 // The seventeen steps of a network, what each asks for, what a tick can decide, and the step after that.
+#![tactic(auto)]
+
 mod after;
 
 ghost use Rattle.std.specs.Prelude.{◌≡◌};
@@ -9,7 +11,7 @@ pub use after::{first_down, step_after};
 use records::{ControllerMode, TransceiverMode};
 
 // N1, N2, K2: where a network is. Steps 4 and 7 have the number of their ticks inside.
-#[derive(Drop)]
+#[derive(Clone, Copy)]
 pub enum Step {
     // 0.
     NoCommunication,
@@ -36,7 +38,7 @@ pub enum Step {
 }
 
 // What a network is about in a step. What holds of whole groups of steps is said of the phase.
-#[derive(Drop)]
+#[derive(Clone, Copy)]
 pub enum Phase {
     Off,
     Rising,
@@ -51,7 +53,7 @@ pub enum Phase {
 }
 
 // What a step asks for.
-#[derive(Drop)]
+#[derive(Clone, Copy)]
 pub enum Ask {
     Nothing,
     Controllers(ControllerMode),
@@ -61,7 +63,7 @@ pub enum Ask {
 }
 
 // The ticks that a step has counted, by the time that they are held against.
-#[derive(Drop)]
+#[derive(Clone, Copy)]
 pub enum Timer {
     Idle,
     Ensure(u16),
@@ -69,7 +71,7 @@ pub enum Timer {
 }
 
 // What is said of each step once: its number, its phase, what it asks for and what it counts.
-#[derive(Drop)]
+#[derive(Clone, Copy)]
 pub struct Profile {
     pub number: u8,
     pub phase: Phase,
@@ -78,7 +80,7 @@ pub struct Profile {
 }
 
 // How a network is equipped: no transceiver, a transceiver, a transceiver with partial networking.
-#[derive(Drop)]
+#[derive(Clone, Copy)]
 pub enum Outfit {
     Bare,
     Fitted,
@@ -86,7 +88,7 @@ pub enum Outfit {
 }
 
 // What a tick does with a network.
-#[derive(Drop)]
+#[derive(Clone, Copy)]
 pub enum Move {
     // Nothing.
     Stay,

@@ -4,7 +4,7 @@ use Rattle.lists.proofs.Basics.{append_assoc, append-nil, Bool, true, false, con
 use native.Mathlib.Nat.{one-le-pow}
 use Rattle.io.specs.Digits.{last_digits, hex_digit_ascii, IsDigitCount}
 use Rattle.lists.specs.Stores.{Stored}
-use Rattle.lists.proofs.Stores.{stored-then}
+use Rattle.lists.proofs.Stores.{stored_then}
 use Rattle.records.specs.declared.Record.{Record}
 use Rattle.records.specs.Records.{handed, records_at}
 use Rattle.text.specs.Text.{digit, digits_up_to, decimal, record_text, records_text, blank, colon}
@@ -48,11 +48,11 @@ digits_few : (most k n : ℕ) → n < 10 ^ suc k → length (digits_up_to most n
 unfolding digits_up_to
 digits_few zero k n b = omega arith
 digits_few (suc most) zero n b = rw (lt-ltb n 10 (omega (arith, b))) (omega arith)
-digits_few (suc most) (suc k) n b = by-test (ltb n 10) (digits_few most k (n / 10) (omega (arith, b))) where
-  by-test : (c : Bool) →
+digits_few (suc most) (suc k) n b = by_test (ltb n 10) (digits_few most k (n / 10) (omega (arith, b))) where
+  by_test : (c : Bool) →
       length (digits_up_to most (n / 10)) ≤ suc k → length (cond c (digit n ∷ []) (digits_up_to most (n / 10) ++ (digit (n % 10) ∷ []))) ≤ suc (suc k)
-  by-test true h = omega arith
-  by-test false h = omega (arith, length-append (digits_up_to most (n / 10)) (digit (n % 10) ∷ []), h)
+  by_test true h = omega arith
+  by_test false h = omega (arith, length-append (digits_up_to most (n / 10)) (digit (n % 10) ∷ []), h)
 
 pub decimal_small : (n : ℕ) → n < 256 → length (decimal n) ≤ 3
 unfolding decimal
@@ -93,4 +93,4 @@ pub record_stored : (r : Record) {b b₁ b₂ b₃ b₄ b₅ b₆ : List ℕ} {i
     Stored b₄ i₄ (colon ∷ []) i₅ b₅ → Stored b₅ i₅ (decimal r.argument) i₆ b₆ → Stored b i (records_text (r ∷ [])) i₆ b₆
 unfolding records_text record_text
 record_stored r s s₁ s₂ s₃ s₄ s₅ =
-    rw (append-nil (record_text r)) (stored-then s (stored-then s₁ (stored-then s₂ (stored-then s₃ (stored-then s₄ s₅)))))
+    rw (append-nil (record_text r)) (stored_then s (stored_then s₁ (stored_then s₂ (stored_then s₃ (stored_then s₄ s₅)))))

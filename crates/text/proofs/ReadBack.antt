@@ -21,12 +21,12 @@ value_append read (x ∷ l) m = value_append (read * 10 + (x - 48)) l m
 value_digits : (most n : ℕ) → n < most → value 0 (digits_up_to most n) ≡ n
 unfolding value digits_up_to
 value_digits zero n h = absurd (omega arith)
-value_digits (suc most) n h = by-test (ltb n 10) refl (λ k. value_digits most (n / 10) k)
+value_digits (suc most) n h = by_test (ltb n 10) refl (λ k. value_digits most (n / 10) k)
   where
-    by-test : (c : Bool) → ltb n 10 ≡ c → (n / 10 < most → value 0 (digits_up_to most (n / 10)) ≡ n / 10)
+    by_test : (c : Bool) → ltb n 10 ≡ c → (n / 10 < most → value 0 (digits_up_to most (n / 10)) ≡ n / 10)
         → value 0 (cond c (digit n ∷ []) (digits_up_to most (n / 10) ++ (digit (n % 10) ∷ []))) ≡ n
-    by-test true e before = omega arith
-    by-test false e before =
+    by_test true e before = omega arith
+    by_test false e before =
         let front = before (omega (arith, ltb-false n 10 e)) in
         value_append 0 (digits_up_to most (n / 10)) (digit (n % 10) ∷ []) ∙ omega (arith, front)
 
@@ -47,12 +47,12 @@ digits_append (x ∷ l) m d e = (d.0, d.1, digits_append l m d.2 e)
 digits_up_to_lem : (most n : ℕ) → Digits (digits_up_to most n)
 unfolding digits_up_to Digits
 digits_up_to_lem zero n = tt
-digits_up_to_lem (suc most) n = by-test (ltb n 10) refl (digits_up_to_lem most (n / 10))
+digits_up_to_lem (suc most) n = by_test (ltb n 10) refl (digits_up_to_lem most (n / 10))
   where
-    by-test : (c : Bool) → ltb n 10 ≡ c → Digits (digits_up_to most (n / 10))
+    by_test : (c : Bool) → ltb n 10 ≡ c → Digits (digits_up_to most (n / 10))
         → Digits (cond c (digit n ∷ []) (digits_up_to most (n / 10) ++ (digit (n % 10) ∷ [])))
-    by-test true e before = (omega arith, omega (arith, ltb-true n 10 e), tt)
-    by-test false e before = digits_append (digits_up_to most (n / 10)) (digit (n % 10) ∷ []) before (omega arith, omega arith, tt)
+    by_test true e before = (omega arith, omega (arith, ltb-true n 10 e), tt)
+    by_test false e before = digits_append (digits_up_to most (n / 10)) (digit (n % 10) ∷ []) before (omega arith, omega arith, tt)
 
 decimal_only : (n : ℕ) → Digits (decimal n)
 unfolding decimal
@@ -164,12 +164,12 @@ Ends (x ∷ l) = ((x ≡ newline) × (l ≡ [])) ⊎ ((x ≡ newline → ⊥) ×
 pub plain_word : (l : List ℕ) → any (λ (x : ℕ). eqb x newline) l ≡ false → Plain l
 unfolding any Plain
 plain_word [] e = tt
-plain_word (x ∷ l) e = by-test (eqb x newline) refl e (λ f. plain_word l f)
+plain_word (x ∷ l) e = by_test (eqb x newline) refl e (λ f. plain_word l f)
   where
-    by-test : (b : Bool) → eqb x newline ≡ b → b || any (λ (x : ℕ). eqb x newline) l ≡ false
+    by_test : (b : Bool) → eqb x newline ≡ b → b || any (λ (x : ℕ). eqb x newline) l ≡ false
         → (any (λ (x : ℕ). eqb x newline) l ≡ false → Plain l) → (x ≡ newline → ⊥) × Plain l
-    by-test true p f rest = absurd (true≢false f)
-    by-test false p f rest = (eqb-false x newline p, rest f)
+    by_test true p f rest = absurd (true≢false f)
+    by_test false p f rest = (eqb-false x newline p, rest f)
 
 plain_append : (l m : List ℕ) → Plain l → Plain m → Plain (l ++ m)
 unfolding Plain

@@ -1,4 +1,6 @@
 // Text into a buffer: bytes, numbers and records, each stored at a place with room for it; the answer is the place after it.
+#![tactic(auto)]
+
 ghost use Rattle.std.specs.Prelude.{[], ◌∷◌, ◌+◌, ◌*◌, ◌≤◌, ◌<◌, length};
 ghost use Rattle.lists.specs.Stores.{Stored};
 ghost use Rattle.records.specs.Records.{records_at};
@@ -6,7 +8,7 @@ ghost use Rattle.text.specs.Text.{decimal, records_text};
 
 use records::Record;
 
-#[derive(Drop)]
+#[derive(Clone, Copy)]
 pub struct Text {}
 
 impl Text {

@@ -5,7 +5,7 @@ use Rattle.lists.proofs.Basics.{drop-append_seam, drop-drop, length-take-le}
 use mathlib.Core.List.{flatten}
 use lib.Seq.{take_at}
 use Rattle.lists.specs.Stores.{Stored}
-use Rattle.lists.proofs.Stores.{stored_none, stored-then, stored-length}
+use Rattle.lists.proofs.Stores.{stored_none, stored_then, stored_length}
 use Rattle.slots.specs.Manager.{answer_number}
 use Rattle.trace.specs.declared.Point.{Point}
 use Rattle.trace.specs.Splitting.{events_from}
@@ -13,8 +13,8 @@ use Rattle.trace.specs.Lines.{too_long}
 use Rattle.trace.specs.Trace.{TellsAt, line_at, point_after, reading_of, first_next, first_point, TellsFirst, output_of, left}
 use Rattle.trace.specs.Trace.{Fills, over, full, more, Filled, emptied, Next}
 use Rattle.trace.proofs.Splits.{events_within}
-use Rattle.trace.proofs.Telling.{next-further}
-use Rattle.trace.proofs.Theorems.{over_left, fills_left, fills_one, trace-too-long, trace-lines}
+use Rattle.trace.proofs.Telling.{next_further}
+use Rattle.trace.proofs.Theorems.{over_left, fills_left, fills_one, trace_too_long, trace_lines}
 
 -- ---- lines one after the other
 flatten_append : (l m : List (List ℕ)) → flatten (l ++ m) ≡ flatten l ++ flatten m
@@ -43,11 +43,11 @@ module _ {s : List ℕ} {p q : Point} {before after : List ℕ} (f : SoFar s p q
         subst (λ (l : List (List ℕ)). Fills s (length before) p l e) (sym (append_assoc f.lines (line_at s q ∷ []) rest))
         (f.goes (line_at s q ∷ rest) e (more q rest e h k (subst (λ (x : Point). Fills s (length before) x rest e) t.point g)));
     stored =
-        rw (flatten_append f.lines (line_at s q ∷ []), append-nil (line_at s q)) (stored-then f.stored t.line);
+        rw (flatten_append f.lines (line_at s q ∷ []), append-nil (line_at s q)) (stored_then f.stored t.line);
   }
 
-  pub so-far-done : q.length ≤ length before → Fills s (length before) q [] q → Filled s p q before after
-  so-far-done h g = record {
+  pub so_far_done : q.length ≤ length before → Fills s (length before) q [] q → Filled s p q before after
+  so_far_done h g = record {
     lines = f.lines;
     fills = subst (λ (l : List (List ℕ)). Fills s (length before) p l q) (append-nil f.lines) (f.goes [] q g);
     stored = f.stored;
@@ -67,7 +67,7 @@ fills_on : {s : List ℕ} {room : ℕ} {p q : Point} {lines : List (List ℕ)} �
 unfolding point_after
 fills_on (over _ h) = omega arith
 fills_on (full _ h k) = omega arith
-fills_on {s} (more p _ _ h k f) = omega (arith, next-further s p.next h, fills_on f)
+fills_on {s} (more p _ _ h k f) = omega (arith, next_further s p.next h, fills_on f)
 
 -- a block with room for a line takes one, unless the input has no more
 pub fills_further : {s : List ℕ} {room : ℕ} {p q : Point} {lines : List (List ℕ)} →
@@ -75,7 +75,7 @@ pub fills_further : {s : List ℕ} {room : ℕ} {p q : Point} {lines : List (Lis
 unfolding point_after
 fills_further (over _ h) l r = absurd (omega arith)
 fills_further (full _ h k) l r = absurd (omega arith)
-fills_further {s} (more p _ _ h k f) l r = omega (arith, next-further s p.next h, fills_on f)
+fills_further {s} (more p _ _ h k f) l r = omega (arith, next_further s p.next h, fills_on f)
 
 -- there are no more lines than bytes
 pub fills_numbered : {s : List ℕ} {room : ℕ} {p q : Point} {lines : List (List ℕ)} →
@@ -83,7 +83,7 @@ pub fills_numbered : {s : List ℕ} {room : ℕ} {p q : Point} {lines : List (Li
 unfolding point_after
 fills_numbered (over _ h) n = n
 fills_numbered (full _ h k) n = n
-fills_numbered {s} (more p _ _ h k f) n = fills_numbered f (omega (arith, next-further s p.next h))
+fills_numbered {s} (more p _ _ h k f) n = fills_numbered f (omega (arith, next_further s p.next h))
 
 -- ---- the blocks, one after the other
 -- the front of a block up to the end of what was stored last
@@ -108,7 +108,7 @@ pub record Waits (s block : List ℕ) (p : Point) (written : ℕ) : Type 0 where
 -- of a long input the output is one line
 pub long_output : (s : List ℕ) → 65536 < length s → output_of s ≡ too_long
 unfolding output_of flatten
-long_output s h = ap flatten (trace-too-long s h)
+long_output s h = ap flatten (trace_too_long s h)
 
 first_within : (s : List ℕ) → (first_point s).next ≤ length s
 unfolding first_point first_next
@@ -126,14 +126,14 @@ first_waits s {r} {before} {after} h size t =
     let number : r.number ≡ 1 = ap (λ (q : Point). q.number) t.point in
     let place = ap (λ (q : Point). q.next) t.point in
     record {
-      size = size ∙ sym (stored-length t.line);
+      size = size ∙ sym (stored_length t.line);
       room = t.room;
       place = omega (arith, place, first_within s);
       number = omega (arith, number);
       few = omega arith;
       within = omega arith;
       next =
-          ap flatten (trace-lines s h)
+          ap flatten (trace_lines s h)
           ∙ ap (λ (l : List ℕ). l ++ flatten (left s (first_point s))) (sym (stored_front t.line (omega (arith, t.room, size))))
           ∙ ap (λ (q : Point). take r.length after ++ flatten (left s q)) (sym t.point);
     }
@@ -142,8 +142,8 @@ module _ {s b b₁ : List ℕ} {p q : Point} {written : ℕ} (w : Waits s b p wr
   abbrev part : List ℕ
   part = take q.length b₁
 
-  part-size : length part ≡ q.length
-  part-size = length-take-le q.length b₁ (omega (arith, f.within, stored-length f.stored))
+  part_size : length part ≡ q.length
+  part_size = length-take-le q.length b₁ (omega (arith, f.within, stored_length f.stored))
 
   part_then : drop written (output_of s) ≡ part ++ flatten (left s q)
   part_then =
@@ -157,11 +157,11 @@ module _ {s b b₁ : List ℕ} {p q : Point} {written : ℕ} (w : Waits s b p wr
   pub filled_next : Next s written part
   filled_next = ap (take (length part)) part_then ∙ take-append_seam part (flatten (left s q))
 
-  pub filled-size : q.length ≡ length part
-  filled-size = sym part-size
+  pub filled_size : q.length ≡ length part
+  filled_size = sym part_size
 
-  pub filled-fits : length s ≤ 65536 → written + length part < 2 ^ 64
-  filled-fits h = omega (arith, w.few, w.place, w.size, f.within, part-size)
+  pub filled_fits : length s ≤ 65536 → written + length part < 2 ^ 64
+  filled_fits h = omega (arith, w.few, w.place, w.size, f.within, part_size)
 
   pub waits_on : q.next < length s → p.next < q.next
   waits_on h = fills_further f.fills h (omega (arith, w.room, w.size))
@@ -179,21 +179,21 @@ module _ {s b b₁ : List ℕ} {p q : Point} {written : ℕ} (w : Waits s b p wr
         omega (arith, e, w.within, length-drop written (output_of s), ap length part_then, length-append part (flatten (left s q)))
 
     -- at the end of the input all is written
-    pub all-written : length s ≤ q.next → written' ≡ length (output_of s)
+    pub all_written : length s ≤ q.next → written' ≡ length (output_of s)
     unfolding flatten
-    all-written h =
+    all_written h =
         let none : drop written' (output_of s) ≡ [] = after ∙ ap flatten (over_left s q h) in
         omega (arith, within, length-drop written' (output_of s), ap length none)
 
     -- before it the next block is filled
-    pub waits-again : {r : Point} → r ≡ emptied q → q.next < length s → Waits s b₁ r written'
+    pub waits_again : {r : Point} → r ≡ emptied q → q.next < length s → Waits s b₁ r written'
     unfolding left
-    waits-again same h = subst (λ (r : Point). Waits s b₁ r written') (sym same) (record {
-      size = w.size ∙ sym (stored-length f.stored);
+    waits_again same h = subst (λ (r : Point). Waits s b₁ r written') (sym same) (record {
+      size = w.size ∙ sym (stored_length f.stored);
       room = omega arith;
       place = omega arith;
       number = fills_numbered f.fills w.number;
-      few = omega (arith, e, w.few, w.size, f.within, part-size, waits_on h);
+      few = omega (arith, e, w.few, w.size, f.within, part_size, waits_on h);
       within = within;
       next = after;
     })

@@ -3,10 +3,10 @@ use Rattle.lists.proofs.Basics.{ℕ, zero, suc, ◌-◌, ◌≤◌, ◌<◌, ari
 use Rattle.fields.specs.declared.Field.{Field}
 use Rattle.fields.specs.declared.Field.TheVariants.{End, Stub, Overrun, Whole}
 use Rattle.fields.specs.Fields.{front}
-use Rattle.fields.proofs.Laws.{row_further, row_from, row_from_lem}
+use Rattle.fields.proofs.Laws.{row_further, row_from_lem, row_from_lem}
 use Rattle.trace.specs.Splitting.{first_event, events_in, events_from}
 
-pub events_by : (s : List ℕ) (at : ℕ) (f : Field) → front at (drop at s) ≡ f → events_from s at ≡ events_in (length s) (row_from s at f)
+pub events_by : (s : List ℕ) (at : ℕ) (f : Field) → front at (drop at s) ≡ f → events_from s at ≡ events_in (length s) (row_from_lem s at f)
 unfolding events_from
 events_by s at f e = ap (events_in (length s)) (row_from_lem s at f e)
 
@@ -20,19 +20,19 @@ further total at later true h l = l
 further total at later false h l = h
 
 module _ (s : List ℕ) (at : ℕ) (h : at ≤ length s) (later : (next : ℕ) → at < next → next ≤ length s → events_from s next ≤ length s) where
-  within-field : (f : Field) → front at (drop at s) ≡ f → events_from s at ≤ length s
+  within_field : (f : Field) → front at (drop at s) ≡ f → events_from s at ≤ length s
   unfolding events_in events_from
-  within-field End e = rw (events_by s at End e) (omega arith)
-  within-field (Stub tag) e = rw (events_by s at (Stub tag) e) (either (length s) at (ltb tag first_event) h)
-  within-field (Overrun tag n) e = rw (events_by s at (Overrun tag n) e) (either (length s) at (ltb tag first_event) h)
-  within-field (Whole tag n next) e =
+  within_field End e = rw (events_by s at End e) (omega arith)
+  within_field (Stub tag) e = rw (events_by s at (Stub tag) e) (either (length s) at (ltb tag first_event) h)
+  within_field (Overrun tag n) e = rw (events_by s at (Overrun tag n) e) (either (length s) at (ltb tag first_event) h)
+  within_field (Whole tag n next) e =
       let r = row_further s at tag n next e in
       let l = later next (omega (arith, r.1)) r.2 in
       rw (events_by s at (Whole tag n next) e) (further (length s) at (events_from s next) (ltb tag first_event) h l)
 
 within_by : (k : ℕ) (s : List ℕ) (at : ℕ) → length s - at < k → at ≤ length s → events_from s at ≤ length s
 within_by zero s at b h = absurd (omega arith)
-within_by (suc k) s at b h = within-field s at h (λ next l m. within_by k s next (omega arith) m) (front at (drop at s)) refl
+within_by (suc k) s at b h = within_field s at h (λ next l m. within_by k s next (omega arith) m) (front at (drop at s)) refl
 
 pub events_within : (s : List ℕ) → events_from s 0 ≤ length s
 events_within s = within_by (suc (length s)) s 0 (omega arith) (omega arith)

@@ -2,11 +2,11 @@
 use Rattle.lists.proofs.Basics.{ℕ, ◌+◌, ◌≤◌, ◌<◌, arith, eq-eqb, ne_eqb, ◌≡◌, sym, ap, subst, ◌∙◌, List, [], ◌∷◌, ◌++◌, append_assoc, Bool, true}
 use Rattle.lists.proofs.Basics.{false, cond, eqb, length, take, drop, refl}
 use Rattle.lists.specs.Stores.{Stored}
-use Rattle.lists.proofs.Stores.{stored-then}
+use Rattle.lists.proofs.Stores.{stored_then}
 use Rattle.fields.specs.declared.Field.{Field}
 use Rattle.fields.specs.declared.Field.TheVariants.{Stub, Overrun, Whole}
 use Rattle.fields.specs.Fields.{front, next_of, ReadAt}
-use Rattle.fields.proofs.Laws.{row_further, row_from, row_from_lem}
+use Rattle.fields.proofs.Laws.{row_further, row_from_lem, row_from_lem}
 use Rattle.records.specs.Records.{records_at}
 use Rattle.slots.specs.declared.Manager.{Manager}
 use Rattle.slots.specs.declared.Outcome.{Outcome}
@@ -69,7 +69,7 @@ event_stored number m event o buffer answer polled {lent} {b} {b₁} {b₂} {b�
     let back = handed_back m (call_of event) lent o buffer (event_counts event) g in
     let e : (decimal number ++ (blank ∷ decimal answer)) ++ said ≡ event_line number m event =
     append_assoc (decimal number) (blank ∷ decimal answer) said ∙ rw (r, t, back, g.result) refl in
-    let whole : Stored b i ((decimal number ++ (blank ∷ decimal answer)) ++ said) i₃ b₃ = stored-then s (stored-then s₁ s₂) in
+    let whole : Stored b i ((decimal number ++ (blank ∷ decimal answer)) ++ said) i₃ b₃ = stored_then s (stored_then s₁ s₂) in
     rw e at whole
 
 -- ---- what a line leaves
@@ -112,27 +112,27 @@ module _ (s : List ℕ) {at : ℕ} {m : Manager} {o begun : Outcome} {number : �
         let size : k ≡ length (first_line s) = omega (arith, line.place) in
         record { point = λ i. record { manager = started i; next = place i; number = 1; length = size i }; line = line; room = l.1 }
 
-    pub first-accepted : number ≡ 0 → Stored before 0 (config_line number o.count) k after × (k ≤ 601) →
+    pub first_accepted : number ≡ 0 → Stored before 0 (config_line number o.count) k after × (k ≤ 601) →
         TellsFirst s (record { manager = begun.manager; next = at; number = 1; length = k }) before after
-    first-accepted z l = told true (eq-eqb (answer_number (reading_of s).answer) 0 (answer ∙ z)) at p l
+    first_accepted z l = told true (eq-eqb (answer_number (reading_of s).answer) 0 (answer ∙ z)) at p l
 
-    pub first-refused : (number ≡ 0 → ⊥) → Stored before 0 (config_line number o.place) k after × (k ≤ 601) →
+    pub first_refused : (number ≡ 0 → ⊥) → Stored before 0 (config_line number o.place) k after × (k ≤ 601) →
         TellsFirst s (record { manager = begun.manager; next = length s; number = 1; length = k }) before after
-    first-refused z l = told false (ne_eqb (answer_number (reading_of s).answer) 0 (λ e. z (sym answer ∙ e))) (length s) refl l
+    first_refused z l = told false (ne_eqb (answer_number (reading_of s).answer) 0 (λ e. z (sym answer ∙ e))) (length s) refl l
 
 -- ---- the loop: the next line's event stands further on
 module _ (s : List ℕ) (at : ℕ) (h : at < length s) where
-  further-field : (f : Field) → front at (drop at s) ≡ f → at < item_next (length s) (next_of f at) (item_at (row_from s at f))
+  further_field : (f : Field) → front at (drop at s) ≡ f → at < item_next (length s) (next_of f at) (item_at (row_from_lem s at f))
   unfolding item_at
-  further-field Field.End e = h
-  further-field (Stub tag) e = h
-  further-field (Overrun tag n) e = h
-  further-field (Whole tag n next) e = by-item (item_of tag (take n (drop (at + 3) s))) where
-    by-item : (item : Item) → at < item_next (length s) next item
-    by-item Item.End = h
-    by-item Item.Bad = h
-    by-item (Item.Known event) = omega (arith, (row_further s at tag n next e).1)
+  further_field Field.End e = h
+  further_field (Stub tag) e = h
+  further_field (Overrun tag n) e = h
+  further_field (Whole tag n next) e = by_item (item_of tag (take n (drop (at + 3) s))) where
+    by_item : (item : Item) → at < item_next (length s) next item
+    by_item Item.End = h
+    by_item Item.Bad = h
+    by_item (Item.Known event) = omega (arith, (row_further s at tag n next e).1)
 
-  pub next-further : at < next_at s at
+  pub next_further : at < next_at s at
   unfolding next_at
-  next-further = rw (row_from_lem s at (front at (drop at s)) refl) (further-field (front at (drop at s)) refl)
+  next_further = rw (row_from_lem s at (front at (drop at s)) refl) (further_field (front at (drop at s)) refl)

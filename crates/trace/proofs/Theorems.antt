@@ -14,7 +14,7 @@ use Rattle.trace.specs.Splitting.{events_from}
 use Rattle.trace.specs.Events.{sized, event_of, item_of, item_at}
 use Rattle.trace.specs.Lines.{stop_line, too_long}
 use Rattle.trace.specs.Trace.{item_line, item_manager, item_next, line_at, next_at, point_after, reading_of, first_line, first_manager, first_next}
-use Rattle.trace.specs.Trace.{first_point, decoded, decoded_item, ending, ending_item, run_lines, event_lines, lines_after, trace_of, left}
+use Rattle.trace.specs.Trace.{first_point, decoded, decoded_item, ending, ending_item, run_lines, event_lines, lines_after_lem, trace_of, left}
 use Rattle.trace.specs.Trace.{Fills, over, full, more}
 
 -- ---- a whole field is an event or bad
@@ -67,25 +67,25 @@ module _ (s : List ℕ) (number : ℕ) (m : Manager) (at : ℕ) (h : at < length
   stops : (next : ℕ) → Then (stop_line at ∷ []) Item.Bad next
   stops next = ap (λ (l : List (List ℕ)). stop_line at ∷ l) (sym (none_after s (number + 1) m (length s) (omega arith)))
 
-  whole-then : (next : ℕ) (item : Item) → Decided item →
+  whole_then : (next : ℕ) (item : Item) → Decided item →
       Then (run_lines number m (decoded_item item (decoded (row_at s next))) ++ ending_item at item (ending (row_at s next))) item next
   unfolding event_lines run_lines
-  whole-then next _ is_bad = stops next
-  whole-then next _ (is_known event) = refl
+  whole_then next _ is_bad = stops next
+  whole_then next _ (is_known event) = refl
 
-  field-then : (f : Field) → front at (drop at s) ≡ f → Then (event_lines number m (row_at s at)) (item_at (row_at s at)) (next_of f at)
+  field_then : (f : Field) → front at (drop at s) ≡ f → Then (event_lines number m (row_at s at)) (item_at (row_at s at)) (next_of f at)
   unfolding event_lines decoded ending run_lines item_at
-  field-then Field.End e = let l = subst (Lies at (drop at s)) e (front_lies at (drop at s)) in absurd (omega (arith, length-drop at s, ap length l))
-  field-then (Stub tag) e = rw (row_from_lem s at (Stub tag) e) (stops at)
-  field-then (Overrun tag n) e = rw (row_from_lem s at (Overrun tag n) e) (stops at)
-  field-then (Whole tag n next) e =
+  field_then Field.End e = let l = subst (Lies at (drop at s)) e (front_lies at (drop at s)) in absurd (omega (arith, length-drop at s, ap length l))
+  field_then (Stub tag) e = rw (row_from_lem s at (Stub tag) e) (stops at)
+  field_then (Overrun tag n) e = rw (row_from_lem s at (Overrun tag n) e) (stops at)
+  field_then (Whole tag n next) e =
       let v = take n (drop (at + 3) s) in
-      rw (row_further s at tag n next e).0 (whole-then next (item_of tag v) (item_decided tag v))
+      rw (row_further s at tag n next e).0 (whole_then next (item_of tag v) (item_decided tag v))
 
 -- the lines that are left are the next line and those that are left after it
 pub next_left : (s : List ℕ) (p : Point) → p.next < length s → left s p ≡ line_at s p ∷ left s (point_after s p)
 unfolding left line_at point_after next_at
-next_left s p h = field-then s p.number p.manager p.next h (front p.next (drop p.next s)) refl
+next_left s p h = field_then s p.number p.manager p.next h (front p.next (drop p.next s)) refl
 
 -- ---- a block
 -- what a block takes and what is left after it are what was left before it
@@ -111,21 +111,21 @@ fills_one s room p _ _ q q' (more _ lines _ h k f) (more _ lines' _ h' k' f') =
 
 -- ---- the whole output
 module _ (s : List ℕ) where
-  by-reading : (accepted : Bool) → (number : ℕ) (m : Manager) →
+  by_reading_lem : (accepted : Bool) → (number : ℕ) (m : Manager) →
       cond accepted (event_lines number m (row_at s (events_from s 0))) [] ≡ event_lines number m (row_at s (cond accepted (events_from s 0) (length s)))
-  by-reading true number m = refl
-  by-reading false number m = sym (none_after s number m (length s) (omega arith))
+  by_reading_lem true number m = refl
+  by_reading_lem false number m = sym (none_after s number m (length s) (omega arith))
 
   -- after the first line just the lines of the events are left, run one after the other on the started manager
-  pub first-left : lines_after s ≡ left s (first_point s)
-  unfolding lines_after left first_point first_next
-  first-left = by-reading (eqb (answer_number (reading_of s).answer) 0) 1 (first_manager s)
+  pub first_left : lines_after_lem s ≡ left s (first_point s)
+  unfolding lines_after_lem left first_point first_next
+  first_left = by_reading_lem (eqb (answer_number (reading_of s).answer) 0) 1 (first_manager s)
 
   -- C1: too long an input has one line
-  pub trace-too-long : 65536 < length s → trace_of s ≡ too_long ∷ []
+  pub trace_too_long : 65536 < length s → trace_of s ≡ too_long ∷ []
   unfolding trace_of
-  trace-too-long h = rw (lt-ltb 65536 (length s) h) refl
+  trace_too_long h = rw (lt-ltb 65536 (length s) h) refl
 
-  pub trace-lines : length s ≤ 65536 → trace_of s ≡ first_line s ∷ left s (first_point s)
+  pub trace_lines : length s ≤ 65536 → trace_of s ≡ first_line s ∷ left s (first_point s)
   unfolding trace_of
-  trace-lines h = rw (le-ltb 65536 (length s) h) (ap (λ (l : List (List ℕ)). first_line s ∷ l) first-left)
+  trace_lines h = rw (le-ltb 65536 (length s) h) (ap (λ (l : List (List ℕ)). first_line s ∷ l) first_left)

@@ -1,4 +1,6 @@
 // A recorded input, a sheet and then events, and the lines that `cantrace` writes for it.
+#![tactic(auto)]
+
 mod events;
 mod lines;
 mod running;
@@ -13,7 +15,7 @@ pub use running::run;
 pub use splitting::events_from;
 
 // A call of the manager, as a recording names it.
-#[derive(Drop)]
+#[derive(Clone, Copy)]
 pub enum Event {
     Request { handle: u8, mode: u8 },
     BusOff { controller: u8 },
@@ -71,7 +73,7 @@ impl Event {
 }
 
 // What stands at a place of the events.
-#[derive(Drop)]
+#[derive(Clone, Copy)]
 pub enum Item {
     End,
     // C21: a field that is no good event.
@@ -80,14 +82,14 @@ pub enum Item {
 }
 
 // What stands at a place, and the place after it.
-#[derive(Drop)]
+#[derive(Clone, Copy)]
 pub struct FoundItem {
     pub item: Item,
     pub next: usize,
 }
 
 // Where a run stands: the manager, the place of the next event, the number of its line, and how many bytes of the block are filled.
-#[derive(Drop)]
+#[derive(Clone, Copy)]
 pub(crate) struct Point {
     pub(crate) manager: Manager,
     pub(crate) next: usize,
@@ -126,7 +128,7 @@ impl Point {
     }
 }
 
-#[derive(Drop)]
+#[derive(Clone, Copy)]
 pub struct Trace {}
 
 impl Trace {

@@ -1,5 +1,7 @@
 // Runs stored inputs, one after the other, and writes the lines that `cantrace` writes for each.
 // Input: for each case four bytes length, high byte first, and the input.
+#![tactic(auto)]
+
 use libc::STDIN_FILENO;
 use trace::Trace;
 

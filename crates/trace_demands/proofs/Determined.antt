@@ -99,13 +99,13 @@ pub line_determines : (k l : ℕ) (m n : Manager) (c : Call) →
 line_determines k l m n c h =
     let same = line_shows k l (entry_of m c) (entry_of n c) refl h in
     let shown = same.1 in
-    let mode = by-test (polls c) refl shown.mode (λ p. (silent m c).mode p ∙ sym ((silent n c).mode p)) in
-    let records = by-test (polls c) refl (λ p. (silent m c).records p ∙ sym ((silent n c).records p)) shown.records in
+    let mode = by_test (polls c) refl shown.mode (λ p. (silent m c).mode p ∙ sym ((silent n c).mode p)) in
+    let records = by_test (polls c) refl (λ p. (silent m c).records p ∙ sym ((silent n c).records p)) shown.records in
     (same.0, λ i. record { call = c; number = shown.answer i; mode = mode i; records = records i })
   where
-    by-test : {A : Type 0} {x y : A} (b : Bool) → polls c ≡ b → (polls c ≡ true → x ≡ y) → (polls c ≡ false → x ≡ y) → x ≡ y
-    by-test true e f g = f e
-    by-test false e f g = g e
+    by_test : {A : Type 0} {x y : A} (b : Bool) → polls c ≡ b → (polls c ≡ true → x ≡ y) → (polls c ≡ false → x ≡ y) → x ≡ y
+    by_test true e f g = f e
+    by_test false e f g = g e
 
 -- ---- a history
 snoc_one : (l m : List (List ℕ)) (x y : List ℕ) → l ++ (x ∷ []) ≡ m ++ (y ∷ []) → (l ≡ m) × (x ≡ y)
@@ -174,12 +174,12 @@ unfolding ending Lines
 ending_ends (stop at) = tt
 ending_ends (stub at tag) = (stop_ends at, tt)
 ending_ends (overrun at tag n) = (stop_ends at, tt)
-ending_ends (field at tag v rest) = by-item (item_of tag v) (ending_ends rest)
+ending_ends (field at tag v rest) = by_item (item_of tag v) (ending_ends rest)
   where
-    by-item : (item : Item) → Lines (ending rest) → Lines (ending_item at item (ending rest))
-    by-item Item.End l = tt
-    by-item Item.Bad l = (stop_ends at, tt)
-    by-item (Item.Known event) l = l
+    by_item : (item : Item) → Lines (ending rest) → Lines (ending_item at item (ending rest))
+    by_item Item.End l = tt
+    by_item Item.Bad l = (stop_ends at, tt)
+    by_item (Item.Known event) l = l
 
 -- a history of events has their calls, and a line for each
 history_calls : (m n : Manager) (h g : History) (es : List Event) →
@@ -213,8 +213,8 @@ module _ (s t : List ℕ) (r : Recorded s) (q : Recorded t) (events : events_of 
   unfolding output_of
   traces = lines_one _ _ (whole s h) (whole t g) (ap flatten (sym r.output) ∙ same ∙ ap flatten q.output)
 
-  pub output-determines : h ≡ g
-  output-determines =
+  pub output_determines : h ≡ g
+  output_determines =
       let tails : history_lines h ++ ending (row_at s (events_from s 0)) ≡ history_lines g ++ ending (row_at t (events_from t 0)) = ap (drop 1) traces in
       let size : length (history_lines h) ≡ length (history_lines g) = lines_length h ∙ ap length calls ∙ sym (lines_length g) in
       let lines : history_lines h ≡ history_lines g = sym (take_at (history_lines h) _ (length (history_lines h)) refl)

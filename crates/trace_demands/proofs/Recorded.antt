@@ -18,18 +18,18 @@ use Rattle.trace.specs.declared.Event.{Event}
 use Rattle.trace.specs.Events.{call_of}
 use Rattle.trace.specs.Lines.{entry_line, event_line}
 use Rattle.trace.specs.Splitting.{events_from}
-use Rattle.trace.specs.Trace.{reading_of, first_line, first_manager, ending, run_lines, event_lines, lines_after, trace_of}
+use Rattle.trace.specs.Trace.{reading_of, first_line, first_manager, ending, run_lines, event_lines, lines_after_lem, trace_of}
 use Rattle.demands.specs.Demands.{Begun, Demand3}
 use Rattle.demands.specs.ComesUp.{ComesUp}
 use Rattle.demands.specs.Listening.{Listening, ListensIn}
 use Rattle.demands.specs.Across.{NothingLeaks}
 use Rattle.demands.proofs.Follow.{follow}
-use Rattle.demands.proofs.DemandThree.{demand-3}
+use Rattle.demands.proofs.DemandThree.{demand_3}
 use Rattle.demands.proofs.ComesUp.{comes_up}
-use Rattle.demands.proofs.Listening.{listening-since, listens_in}
+use Rattle.demands.proofs.Listening.{listening_since, listens_in}
 use Rattle.demands.proofs.Across.{nothing_leaks}
 use Rattle.trace_demands.specs.Recorded.{history_lines, history_after, manager_after, events_of, Recorded, HasRoom}
-use Rattle.trace_demands.proofs.Room.{events-not-short, events-then-tick}
+use Rattle.trace_demands.proofs.Room.{events_not_short, events_then_tick}
 
 -- the lines of events that follow a history are its next lines
 pub lines_after_lem : (m : Manager) (h : History) (es : List Event) → history_lines (history_after m h es) ≡ history_lines h ++ run_lines (length h + 1) m es
@@ -72,24 +72,24 @@ read_same e = cc
 
 module _ (s : List ℕ) (bytes : Bytes s) (taken : eqb (answer_number (reading_of s).answer) 0 ≡ true) where
   -- its reading was accepted, so that a start is too
-  start-accepted : (outcome (reading_of s).manager start).answer ≡ Answer.Accepted
+  start_accepted : (outcome (reading_of s).manager start).answer ≡ Answer.Accepted
   unfolding reading_of outcome read_into
-  start-accepted = read_then_start (decode (take (events_from s 0) s)) (decode (take (events_from s 0) s)).answer taken
+  start_accepted = read_then_start (decode (take (events_from s 0) s)) (decode (take (events_from s 0) s)).answer taken
 
-  first-begun : Begun (first_manager s)
+  first_begun : Begun (first_manager s)
   unfolding first_manager reading_of
-  first-begun = record {
+  first_begun = record {
     before = (outcome new_manager (read (take (events_from s 0) s))).manager;
     reached = after new_manager (read (take (events_from s 0) s)) (λ b e _. subst Bytes (read_same e) (take_bytes (events_from s 0) s bytes)) at_new;
-    accepted = start-accepted;
+    accepted = start_accepted;
     same = refl;
   }
 
   -- what `cantrace` writes for it is a history since the start
   pub recorded : ltb 65536 (length s) ≡ false → Recorded s
-  unfolding trace_of lines_after event_lines history_lines
+  unfolding trace_of lines_after_lem event_lines history_lines
   recorded short = record {
-    begun = first-begun;
+    begun = first_begun;
     since = λ es. events_since (first_manager s) (first_manager s) [] es begun;
     output =
         rw (short, taken) (ap
@@ -97,32 +97,32 @@ module _ (s : List ℕ) (bytes : Bytes s) (taken : eqb (answer_number (reading_o
   }
 
   -- demand 3 holds of every network of it, over that history and every other since the start
-  pub recorded-demand-3 : (i : ℕ) → i < length (networks_of (first_manager s)) → Demand3 (first_manager s) (network_at (first_manager s) i)
-  recorded-demand-3 i h = demand-3 (first_manager s) first-begun i h
+  pub recorded_demand_3 : (i : ℕ) → i < length (networks_of (first_manager s)) → Demand3 (first_manager s) (network_at (first_manager s) i)
+  recorded_demand_3 i h = demand_3 (first_manager s) first_begun i h
 
   -- and so do the figures
-  pub recorded-comes-up : (i : ℕ) → i < length (networks_of (first_manager s)) → ComesUp (first_manager s) (network_at (first_manager s) i)
-  recorded-comes-up i h = comes_up (first_manager s) first-begun i h
+  pub recorded_comes_up : (i : ℕ) → i < length (networks_of (first_manager s)) → ComesUp (first_manager s) (network_at (first_manager s) i)
+  recorded_comes_up i h = comes_up (first_manager s) first_begun i h
 
   -- and so does what is said of listening
-  pub recorded-listening : Listening (first_manager s)
-  recorded-listening = listening-since (first_manager s) first-begun
+  pub recorded_listening : Listening (first_manager s)
+  recorded_listening = listening_since (first_manager s) first_begun
 
-  pub recorded-listens-in : (i : ℕ) → i < length (networks_of (first_manager s)) → ListensIn (first_manager s) i
-  recorded-listens-in i h = listens_in (first_manager s) first-begun i h
+  pub recorded_listens_in : (i : ℕ) → i < length (networks_of (first_manager s)) → ListensIn (first_manager s) i
+  recorded_listens_in i h = listens_in (first_manager s) first_begun i h
 
   -- and that nothing leaks across
-  pub recorded-nothing-leaks : (i : ℕ) → i < length (networks_of (first_manager s)) → NothingLeaks (first_manager s) i
-  recorded-nothing-leaks i h = nothing_leaks (first_manager s) first-begun i h
+  pub recorded_nothing_leaks : (i : ℕ) → i < length (networks_of (first_manager s)) → NothingLeaks (first_manager s) i
+  recorded_nothing_leaks i h = nothing_leaks (first_manager s) first_begun i h
 
   -- what its calls are lent is room for any of them
-  pub recorded-has-room : HasRoom s
+  pub recorded_has_room : HasRoom s
   unfolding any
-  recorded-has-room = record {
+  recorded_has_room = record {
     needs =
-        let sound = (follow (first_manager s) (first_manager s) [] first-begun begun).sound in
+        let sound = (follow (first_manager s) (first_manager s) [] first_begun begun).sound in
         omega (arith, tick_needs_paper (first_manager s) sound, tick_needs_most (first_manager s) sound);
-    not_short = λ es. events-not-short (first_manager s) first-begun (first_manager s) [] es begun refl;
-    ticks = λ es. events-then-tick (first_manager s) first-begun (manager_after (first_manager s) es) _
+    not_short = λ es. events_not_short (first_manager s) first_begun (first_manager s) [] es begun refl;
+    ticks = λ es. events_then_tick (first_manager s) first_begun (manager_after (first_manager s) es) _
         (events_since (first_manager s) (first_manager s) [] es begun);
   }

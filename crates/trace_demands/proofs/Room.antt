@@ -17,7 +17,7 @@ use Rattle.slots.specs.declared.Outcome.{Outcome}
 use Rattle.slots.specs.Manager.{answer_number, network_at, state_at, tick_needs, listen_needs}
 use Rattle.slots.specs.Calls.{Call, by_stage, unknown, by_slot, answer_of, settled, slot_outcome, named, gate_of, by_gate, all_ticked, listened, outcome}
 use Rattle.calls.specs.Histories.{entry_of, answers_of, History, Since, goes}
-use Rattle.calls.proofs.ByCall.{by-slot}
+use Rattle.calls.proofs.ByCall.{by_slot_lem}
 use Rattle.manager_theorems.specs.Careful.{Sound}
 use Rattle.manager_theorems.proofs.Counts.{tick_needs_most, listen_needs_most}
 use Rattle.trace.specs.declared.Event.{Event}
@@ -49,21 +49,21 @@ unknown_not_short (Id.OfController controller) e = omega arith
 unknown_not_short (Id.OfTransceiver transceiver) e = omega arith
 
 module _ (m : Manager) where
-  slot-not-short : (i : ℕ) (sight : Sight) → NotShort (slot_outcome m i sight)
+  slot_not_short : (i : ℕ) (sight : Sight) → NotShort (slot_outcome m i sight)
   unfolding slot_outcome settled
-  slot-not-short i sight =
+  slot_not_short i sight =
       let reply = (part_of (network_at m i) (state_at m i) sight).reply in
       split NotShort (is_taken reply) (λ _ e. omega arith) (λ _. reply_not_short reply)
 
-  named-not-short : (id : Id) (sight : Sight) → NotShort (named m id sight)
+  named_not_short : (id : Id) (sight : Sight) → NotShort (named m id sight)
   unfolding named
-  named-not-short id sight = by-slot m id (λ slot. NotShort (by_slot m slot (λ i. slot_outcome m i sight)))
-      (λ f e. omega arith) (λ f. unknown_not_short id) (λ i f. slot-not-short i sight)
+  named_not_short id sight = by_slot_lem m id (λ slot. NotShort (by_slot m slot (λ i. slot_outcome m i sight)))
+      (λ f e. omega arith) (λ f. unknown_not_short id) (λ i f. slot_not_short i sight)
 
   -- 144 bytes are more than the records need
-  gate-not-short : (needs : ℕ) (o : Outcome) → needs ≤ 144 → NotShort o → NotShort (by_gate m (gate_of m 144 needs) o)
+  gate_not_short : (needs : ℕ) (o : Outcome) → needs ≤ 144 → NotShort o → NotShort (by_gate m (gate_of m 144 needs) o)
   unfolding gate_of
-  gate-not-short needs o l p = at_stage m.stage where
+  gate_not_short needs o l p = at_stage m.stage where
     at_stage : (g : Stage) → NotShort
         (by_gate m (by_stage g (Gate.Refused Answer.NotReady) (Gate.Refused Answer.NotReady)
         (cond (ltb 144 needs) (Gate.Refused Answer.TooShort) Gate.Open)) o)
@@ -76,18 +76,18 @@ module _ (m : Manager) where
   among : (c : Call) → member 0x20 (answers_of c) ≡ false → NotShort (outcome m c)
   among c none e = false≢true (sym none ∙ subst (λ (k : ℕ). member k (answers_of c) ≡ true) e (every_call_answers m c))
 
-  event-not-short : Sound m → (event : Event) → NotShort (outcome m (call_of event))
+  event_not_short : Sound m → (event : Event) → NotShort (outcome m (call_of event))
   unfolding any outcome all_ticked listened
-  event-not-short s (Event.Request handle mode) = among (call_of (Event.Request handle mode)) refl
-  event-not-short s (Event.BusOff controller) = gate-not-short 9 _ (omega arith) (named-not-short (Id.OfController controller) a_bus_off)
-  event-not-short s (Event.Answer controller mode ok) = among (call_of (Event.Answer controller mode ok)) refl
-  event-not-short s (Event.TransceiverMode transceiver mode) = among (call_of (Event.TransceiverMode transceiver mode)) refl
-  event-not-short s (Event.ClearDone transceiver) = among (call_of (Event.ClearDone transceiver)) refl
-  event-not-short s (Event.CheckDone transceiver) = among (call_of (Event.CheckDone transceiver)) refl
-  event-not-short s Event.Tick = gate-not-short (tick_needs m) _ (tick_needs_most m s) (λ e. omega arith)
-  event-not-short s (Event.Poll handle) = among (call_of (Event.Poll handle)) refl
-  event-not-short s (Event.Stall handle) = gate-not-short 3 _ (omega arith) (named-not-short (Id.OfNetwork handle) a_stall)
-  event-not-short s (Event.Listen value) = gate-not-short (listen_needs m) _ (omega (arith, listen_needs_most m s))
+  event_not_short s (Event.Request handle mode) = among (call_of (Event.Request handle mode)) refl
+  event_not_short s (Event.BusOff controller) = gate_not_short 9 _ (omega arith) (named_not_short (Id.OfController controller) a_bus_off)
+  event_not_short s (Event.Answer controller mode ok) = among (call_of (Event.Answer controller mode ok)) refl
+  event_not_short s (Event.TransceiverMode transceiver mode) = among (call_of (Event.TransceiverMode transceiver mode)) refl
+  event_not_short s (Event.ClearDone transceiver) = among (call_of (Event.ClearDone transceiver)) refl
+  event_not_short s (Event.CheckDone transceiver) = among (call_of (Event.CheckDone transceiver)) refl
+  event_not_short s Event.Tick = gate_not_short (tick_needs m) _ (tick_needs_most m s) (λ e. omega arith)
+  event_not_short s (Event.Poll handle) = among (call_of (Event.Poll handle)) refl
+  event_not_short s (Event.Stall handle) = gate_not_short 3 _ (omega arith) (named_not_short (Id.OfNetwork handle) a_stall)
+  event_not_short s (Event.Listen value) = gate_not_short (listen_needs m) _ (omega (arith, listen_needs_most m s))
       (split NotShort (ltb 1 value) (λ _ e. omega arith) (λ _ e. omega arith))
 
   tick_accepted : Sound m → m.stage ≡ Stage.Started → (outcome m (call_of Event.Tick)).answer ≡ Answer.Accepted
@@ -96,13 +96,13 @@ module _ (m : Manager) where
 
 -- ---- every history of events since the start
 module _ (m₀ : Manager) (b : Begun m₀) where
-  pub events-not-short : (m : Manager) (h : History) (es : List Event) →
+  pub events_not_short : (m : Manager) (h : History) (es : List Event) →
       Since m₀ m h → any too_short h ≡ false → any too_short (history_after m h es) ≡ false
   unfolding history_after any
-  events-not-short m h [] s none = none
-  events-not-short m h (event ∷ es) s none =
-      let here = ne_eqb (answer_number (outcome m (call_of event)).answer) 0x20 (event-not-short m (follow m₀ m h b s).sound event) in
-      events-not-short (outcome m (call_of event)).manager (entry_of m (call_of event) ∷ h) es (goes m h (call_of event) s) (rw here none)
+  events_not_short m h [] s none = none
+  events_not_short m h (event ∷ es) s none =
+      let here = ne_eqb (answer_number (outcome m (call_of event)).answer) 0x20 (event_not_short m (follow m₀ m h b s).sound event) in
+      events_not_short (outcome m (call_of event)).manager (entry_of m (call_of event) ∷ h) es (goes m h (call_of event) s) (rw here none)
 
-  pub events-then-tick : (m : Manager) (h : History) → Since m₀ m h → (outcome m (call_of Event.Tick)).answer ≡ Answer.Accepted
-  events-then-tick m h s = let f = follow m₀ m h b s in tick_accepted m f.sound f.started
+  pub events_then_tick : (m : Manager) (h : History) → Since m₀ m h → (outcome m (call_of Event.Tick)).answer ≡ Answer.Accepted
+  events_then_tick m h s = let f = follow m₀ m h b s in tick_accepted m f.sound f.started

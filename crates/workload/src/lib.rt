@@ -1,5 +1,7 @@
 // Work for the manager, to be measured: the same as speed/work.c does on the same rules in C. A box around the manager plays its neighbours.
 // Each function starts a manager with a sheet, has it work for some rounds, and returns a sum of what it handed out.
+#![tactic(auto)]
+
 use manager::Manager;
 use network::LastAnswer;
 use records::{ControllerMode, EventStatus, Mode, Record};
@@ -60,7 +62,7 @@ fn quiet(manager: Manager, out: &mut [u8; Manager::TICK_NEEDS]) -> Manager {
 }
 
 // What has come of the rounds so far.
-#[derive(Drop)]
+#[derive(Clone, Copy)]
 struct Played {
     manager: Manager,
     sum: u32,

@@ -1,4 +1,6 @@
 // Writing a sheet into a lent buffer, from its front. The length comes first, so that a refusal touches nothing.
+#![tactic(auto)]
+
 ghost use Rattle.std.specs.Prelude.{◌≡◌, [], ◌∷◌, ◌+◌, ◌*◌, ◌/◌, ◌%◌, ◌≤◌, min};
 ghost use lib.ListN.{length};
 ghost use Rattle.std.proofs.lemmas.List.Edits.{sets};

@@ -2,7 +2,7 @@
 use Rattle.lists.proofs.Basics.{needs, arith, ◌≤◌, sym, refl, length}
 use lib.ListN.{drop_of_length-le}
 use Rattle.fields.specs.Fields.{front}
-use Rattle.fields.proofs.Laws.{front_short, front-overrun, front_fits}
+use Rattle.fields.proofs.Laws.{front_short, front_overrun, front_fits}
 use Rattle.fields.proofs.field_at.Statement.{statement}
 use Rattle.fields.proofs.field_at.Tie as tie
 
@@ -21,7 +21,7 @@ returns_2 c =
 returns_3 : tie.Need-returns-3
 returns_3 c =
     let a = c.before.before.before.before.before.before.before.before.args in
-    sym (front-overrun a.bytes.now a.at c.before.number.result c.before.number.ensures (omega arith) (omega arith))
+    sym (front_overrun a.bytes.now a.at c.before.number.result c.before.number.ensures (omega arith) (omega arith))
 
 returns_4 : tie.Need-returns-4
 returns_4 c =

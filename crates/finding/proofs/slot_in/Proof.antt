@@ -43,7 +43,7 @@ use denote.Triple.Statement.{Triple}
 use denote.Triple.Table.{entered, cited}
 use denote.Triple.Walked.{says, Stays, stay_none_ref, stay_none, walk_of, Goes-none, Goes-none_ref, ends_at, walked, walk_Meets}
 use denote.Exit.{yes}
-use Rattle.fields.proofs.Calls.{Asked, cells, asks-last, asks-plainly}
+use Rattle.fields.proofs.Calls.{Asked, cells, asks_last, asks_plainly}
 use Rattle.settings.specs.declared.Id.{Id}
 use Rattle.settings.specs.Settings.{has}
 use Rattle.settings.specs.contracts.Id as I
@@ -63,9 +63,9 @@ use Rattle.finding.specs.declared.Search.{Search}
 use Rattle.finding.specs.Search.{begun, goes_on, tried_with, slot_found}
 use Rattle.finding.specs.contracts.Search as Sr
 use Rattle.finding.proofs.Search.TheLaws as Sr'
-use Rattle.finding.proofs.Searching.{Facts, begins, next-below, nearer, steps, ends}
-use Rattle.finding.proofs.Lent.{ref, handed-on}
-use Rattle.finding.proofs.OneSlot.{manager-known, KeptStage, stage-out, stage-back, KeptCount, count-out, count-back}
+use Rattle.finding.proofs.Searching.{Facts, begins, next_below, nearer, steps, ends}
+use Rattle.finding.proofs.Lent.{ref, handed_on}
+use Rattle.finding.proofs.OneSlot.{manager_known, KeptStage, stage_out, stage_back, KeptCount, count_out, count_back}
 use Rattle.finding.specs.contracts.begin as begin
 use Rattle.finding.proofs.begin.Symbol.{name as #begin, routine as begin-routine}
 use Rattle.finding.proofs.begin.Met.{met as begin-meets}
@@ -110,8 +110,8 @@ module _ (m : Manager) (is : Is Mg.the_row m (Mg'.lowered m ∷ [])) where
   count_fits : m.count < 2 ^ 8
   count_fits = (LL.owed Mg.the_type Mg'.the_laws m (Mg'.lowered m ∷ []) is).1.1.0.1
 
-  eight-networks : length m.networks ≡ 8
-  eight-networks = sym (length-map m.networks (N.the_type).to) ∙ (LL.owed Mg.the_type Mg'.the_laws m (Mg'.lowered m ∷ []) is).1.1.1.0.1.0.1
+  eight_networks : length m.networks ≡ 8
+  eight_networks = sym (length-map m.networks (N.the_type).to) ∙ (LL.owed Mg.the_type Mg'.the_laws m (Mg'.lowered m ∷ []) is).1.1.1.0.1.0.1
 
 module _ {M : Type 1} {𝓤 : Ura M} (𝓛 : Logic 𝓤) (mem : Memory → SProp 𝓤) (run : Routine → Fun 𝓤) (κ : Lft) (q : Share)
     (b o : ℕ) (γ : GName) (m : Manager) (id : Id) (is-id : Is I.the_row id (I'.lowered id ∷ [])) where
@@ -144,19 +144,19 @@ module _ {M : Type 1} {𝓤 : Ura M} (𝓛 : Logic 𝓤) (mem : Memory → SProp
   abbrev Nearer : Turn → Turn → Type 0
   Nearer t u = t.0.reach - t.0.next < u.0.reach - u.0.next
 
-  Nearer-wf : WellFounded Nearer
-  Nearer-wf = InvImage.wf (λ (t : Turn). t.0.reach - t.0.next) lt-wf_rel.wf
+  Nearer_wf : WellFounded Nearer
+  Nearer_wf = InvImage.wf (λ (t : Turn). t.0.reach - t.0.next) lt-wf_rel.wf
 
   -- the callees' arguments; the manager is lent on for a turn
-  abbrev to-begin : (Asked 𝓛 begin.ended (begin.clauses 𝓛 mem run)).Ghost
-  to-begin = ((tt, tt, tt, (m.stage, (m.count, tt)), (St'.lowered m.stage ∷ [], (vint w8 m.count ∷ [], tt))), tt)
+  abbrev to_begin : (Asked 𝓛 begin.ended (begin.clauses 𝓛 mem run)).Ghost
+  to_begin = ((tt, tt, tt, (m.stage, (m.count, tt)), (St'.lowered m.stage ∷ [], (vint w8 m.count ∷ [], tt))), tt)
 
-  abbrev to-slot-found : Search → (Asked 𝓛 slot-found.ended (slot-found.clauses 𝓛 mem run)).Ghost
-  to-slot-found s =
+  abbrev to_slot_found : Search → (Asked 𝓛 slot-found.ended (slot-found.clauses 𝓛 mem run)).Ghost
+  to_slot_found s =
       ((tt, tt, tt, (m.stage, (id, (s, tt))), (St'.lowered m.stage ∷ [], (I'.lowered id ∷ [], (Sr'.lowered s ∷ [], tt)))), tt)
 
-  abbrev to-tried-in : Search → (Asked 𝓛 tried-in.ended (tried-in.clauses 𝓛 mem run)).Ghost
-  to-tried-in s = (((κ, tt), (q, tt), tt, (ref b o γ m, (s, (id, tt))), (vptr b o ∷ [], (Sr'.lowered s ∷ [], (I'.lowered id ∷ [], tt)))), tt)
+  abbrev to_tried_in : Search → (Asked 𝓛 tried-in.ended (tried-in.clauses 𝓛 mem run)).Ghost
+  to_tried_in s = (((κ, tt), (q, tt), tt, (ref b o γ m, (s, (id, tt))), (vptr b o ∷ [], (Sr'.lowered s ∷ [], (I'.lowered id ∷ [], tt)))), tt)
 
   module _ (𝓣 : Tables 𝓤 H) (fm : FmC 𝓤 H 𝓛.laws 𝓣.C)
       (begin-met : Triple 𝓤 (𝓣.C #begin) (Asked 𝓛 begin.ended (begin.clauses 𝓛 mem run)))
@@ -188,13 +188,13 @@ module _ {M : Type 1} {𝓤 : Ura M} (𝓛 : Logic 𝓤) (mem : Memory → SProp
 
         -- what a search knows after a turn
         knows : (t : Turn) (r : Bool) → r ≡ goes_on t.0 → Holds r → (s : Search) → s ≡ tried_with t.0 (network_at m t.0.next) id → Facts id m s
-        knows t r e on s found = subst (Facts id m) (sym found) (steps id m t.0 t.1.0 (eight-networks m is_m) (sym e ∙ true_of r on))
+        knows t r e on s found = subst (Facts id m) (sym found) (steps id m t.0 t.1.0 (eight_networks m is_m) (sym e ∙ true_of r on))
 
         turns : (t : Turn) → Sq 𝓛 (At t) (runs C Λ E body.turn-1 (any_q (Turned t)))
         unfolding after_turn
         turns t =
-            asks-plainly ! fm goes_on.ended (goes_on.clauses 𝓛 mem run) ((tt, tt, tt, (s, tt), (Sr'.lowered s ∷ [], tt)), tt) (id⊢ 𝓤 (emp 𝓤))
-            (LL.makes Sr.the_type Sr'.the_plain 𝓛, tt) (is-s, tt) (id⊢ 𝓤 (emp 𝓤)) bools (λ r. r ≡ goes_on s) (λ r ws. refl) (goes-on-met _)
+            asks_plainly ! fm goes_on.ended (goes_on.clauses 𝓛 mem run) ((tt, tt, tt, (s, tt), (Sr'.lowered s ∷ [], tt)), tt) (id⊢ 𝓤 (emp 𝓤))
+            (LL.makes Sr.the_type Sr'.the_plain 𝓛, tt) (is_s, tt) (id⊢ 𝓤 (emp 𝓤)) bools (λ r. r ≡ goes_on s) (λ r ws. refl) (goes-on-met _)
             (and_then ! (load ! (from ! (stop !)) (look ! 7 refl)) (no_more !)) (λ r is-r e.
             land ! (from ! (stop !)) (init ! 2 refl ((bool_Lawful 𝓛).typed r _ is-r).0) $
             first ! $ branches ! (load ! (from ! (stop !)) (look ! 2 refl))
@@ -202,14 +202,14 @@ module _ {M : Type 1} {𝓤 : Ura M} (𝓛 : Logic 𝓤) (mem : Memory → SProp
             -- the `&` is had twice, and one goes to `tried_in`
             move ! (16 ∷ []) $ res_dup ! $ move ! (3 ∷ []) $ shr_bor_dup ! $ move ! (2 ∷ 0 ∷ []) $
             feq_i ! (List Val) (vptr b o ∷ []) (vptr b o ∷ []) refl $ fjoin3 ! $ move ! (3 ∷ 0 ∷ []) $
-            use2 𝓛 (raw ((Asked 𝓛 tried-in.ended (tried-in.clauses 𝓛 mem run)).pre (to-tried-in s)))
-            (handed-on 𝓛 κ q ((ShrRef (named 0) κ Mg.the_row).own_val (ref b o γ m) (vptr b o ∷ [])) (Sr.the_row ∷ I.the_row ∷ [])
+            use2 𝓛 (raw ((Asked 𝓛 tried-in.ended (tried-in.clauses 𝓛 mem run)).pre (to_tried_in s)))
+            (handed_on 𝓛 κ q ((ShrRef (named 0) κ Mg.the_row).own_val (ref b o γ m) (vptr b o ∷ [])) (Sr.the_row ∷ I.the_row ∷ [])
             (LL.makes Sr.the_type Sr'.the_plain 𝓛, (EL.makes I.the_type I'.the_plain 𝓛, tt)) (s, (id, tt))
-            (Sr'.lowered s ∷ [], (I'.lowered id ∷ [], tt)) (is-s, (is-id, tt)) (fact 𝓤 (s.next < 8)) (fact_i 𝓤 (s.next < 8) (emp 𝓤) (there r e on))) $
+            (Sr'.lowered s ∷ [], (I'.lowered id ∷ [], tt)) (is_s, (is-id, tt)) (fact 𝓤 (s.next < 8)) (fact_i 𝓤 (s.next < 8) (emp 𝓤) (there r e on))) $
             -- [what the call needs; the fractured borrow; res; _6; …]
-            asks-last ! fm tried-in.ended (tried-in.clauses 𝓛 mem run) (to-tried-in s) Sr'.lowers
-            (λ u. u ≡ tried_with s (network_at m s.next) id) (λ u ws. refl) (raw ((Asked 𝓛 tried-in.ended (tried-in.clauses 𝓛 mem run)).pre (to-tried-in s)))
-            (id⊢ 𝓤 _) (tried-in-met (to-tried-in s))
+            asks_last ! fm tried-in.ended (tried-in.clauses 𝓛 mem run) (to_tried_in s) Sr'.lowers
+            (λ u. u ≡ tried_with s (network_at m s.next) id) (λ u ws. refl) (raw ((Asked 𝓛 tried-in.ended (tried-in.clauses 𝓛 mem run)).pre (to_tried_in s)))
+            (id⊢ 𝓤 _) (tried-in-met (to_tried_in s))
             (and_then ! (load ! (from ! (stop !)) (look ! 13 refl)) (and_then ! (load ! (from ! (stop !)) (look ! 7 refl))
             (and_then ! (load ! (from ! (stop !)) (look ! 11 refl)) (no_more !)))) (λ u is-u found.
             move ! (1 ∷ []) $ drop ! $ use1 𝓛 (‵ (flft κ q) ⊛ ‵ ftrue) (id⊢ 𝓤 _) $ split ! $
@@ -220,41 +220,41 @@ module _ {M : Type 1} {𝓤 : Ura M} (𝓛 : Logic 𝓤) (mem : Memory → SProp
             (subst (λ (z : Search). z.reach - z.next < s.reach - s.next) (sym found) (nearer id m s t.1.0 (sym e ∙ true_of r on)
             (has id (network_at m s.next))))))
             (λ off. jumps ! $ exec ! C Λ E body.t-5 (at_ret E Post) $
-            asks-plainly ! fm slot-found.ended (slot-found.clauses 𝓛 mem run) (to-slot-found s) (id⊢ 𝓤 (emp 𝓤))
+            asks_plainly ! fm slot-found.ended (slot-found.clauses 𝓛 mem run) (to_slot_found s) (id⊢ 𝓤 (emp 𝓤))
             (EL.makes St.the_type St'.the_plain 𝓛, (EL.makes I.the_type I'.the_plain 𝓛, (LL.makes Sr.the_type Sr'.the_plain 𝓛, tt)))
-            (stage_is m is_m, (is-id, (is-s, tt))) (id⊢ 𝓤 (emp 𝓤)) Sl'.lowers (λ z. z ≡ slot_found m.stage id s) (λ z ws. refl) (slot-found-met (to-slot-found s))
+            (stage_is m is_m, (is-id, (is_s, tt))) (id⊢ 𝓤 (emp 𝓤)) Sl'.lowers (λ z. z ≡ slot_found m.stage id s) (λ z ws. refl) (slot-found-met (to_slot_found s))
             (and_then ! (load ! (from ! (stop !)) (look ! 9 refl)) (and_then ! (load ! (from ! (stop !)) (look ! 11 refl))
             (and_then ! (load ! (from ! (stop !)) (look ! 7 refl)) (no_more !)))) (λ z is-z found.
             land ! (from ! (stop !)) (init ! 14 refl ((EL.lawful Sl.the_type Sl'.the_laws 𝓛 tt).typed z _ is-z).0) $
             returns ! (look ! 14 refl) $ forget ! 2 refl $ forget ! 4 refl $ forget ! 6 refl $ forget ! 8 refl $ forget ! 10 refl $ forget ! 12 refl $
             forget ! 14 refl $ move ! (14 ∷ 15 ∷ 12 ∷ 13 ∷ 10 ∷ 11 ∷ 8 ∷ 9 ∷ 6 ∷ 7 ∷ 4 ∷ 5 ∷ 2 ∷ 3 ∷ []) $
             free1 ! $ free1 ! $ free1 ! $ free1 ! $ free1 ! $ free1 ! $ free1 ! $ free0 ! $ keep ! (0 ∷ 1 ∷ 2 ∷ []) $
-            by ! (exits z is-z (found ∙ ends id m s t.1.0 (eight-networks m is_m) (sym e ∙ false_of r off))))))
+            by ! (exits z is-z (found ∙ ends id m s t.1.0 (eight_networks m is_m) (sym e ∙ false_of r off))))))
           where
             s : Search
             s = t.0
 
-            is-s : Is Sr.the_row t.0 (Sr'.lowered t.0 ∷ [])
-            is-s = t.1.1
+            is_s : Is Sr.the_row t.0 (Sr'.lowered t.0 ∷ [])
+            is_s = t.1.1
 
             there : (r : Bool) → r ≡ goes_on t.0 → Holds r → t.0.next < 8
-            there r e on = next-below id m t.0 t.1.0 (sym e ∙ true_of r on)
+            there r e on = next_below id m t.0 t.1.0 (sym e ∙ true_of r on)
 
         -- the loop, and what follows it
         searches : (t : Turn) → Sq 𝓛 (At t) (runs C Λ E body.t-4 (at_ret E Post))
-        searches t = first ! $ blocks ! $ loops ! 𝓣 Nearer Nearer-wf At turns t
+        searches t = first ! $ blocks ! $ loops ! 𝓣 Nearer Nearer_wf At turns t
 
         -- what follows once the stage and the number of networks are read
         starts : Sq 𝓛 (‵ (flft κ q) ∷ ‵ (fshr_bor κ (λ s. part_at Mg.the_row s m b o)) ∷ cells E
             (none ∷ held (vptr b o) ∷ held (I'.lowered id) ∷ held (St'.lowered m.stage) ∷ none ∷ held (vint w8 m.count) ∷ none ∷ [])
             (‵ (fres γ ((Mg.the_row).coded.code m)) ∷ [])) (runs C Λ E body.t-3 (at_ret E Post))
         starts =
-            asks-plainly ! fm begin.ended (begin.clauses 𝓛 mem run) to-begin (id⊢ 𝓤 (emp 𝓤))
+            asks_plainly ! fm begin.ended (begin.clauses 𝓛 mem run) to_begin (id⊢ 𝓤 (emp 𝓤))
             (EL.makes St.the_type St'.the_plain 𝓛, (uint_Makes 𝓛 w8, tt)) (stage_is m is_m, ((refl, count_fits m is_m), tt)) (id⊢ 𝓤 (emp 𝓤))
-            Sr'.lowers (λ s. s ≡ begun m.stage m.count) (λ s ws. refl) (begin-met to-begin)
-            (and_then ! (load ! (from ! (stop !)) (look ! 9 refl)) (and_then ! (load ! (from ! (stop !)) (look ! 5 refl)) (no_more !))) (λ s is-s e.
-            land ! (from ! (stop !)) (init ! 6 refl ((LL.lawful Sr.the_type Sr'.the_laws 𝓛).typed s _ is-s).0) $
-            searches (s, (subst (Facts id m) (sym e) (begins id m), is-s)))
+            Sr'.lowers (λ s. s ≡ begun m.stage m.count) (λ s ws. refl) (begin-met to_begin)
+            (and_then ! (load ! (from ! (stop !)) (look ! 9 refl)) (and_then ! (load ! (from ! (stop !)) (look ! 5 refl)) (no_more !))) (λ s is_s e.
+            land ! (from ! (stop !)) (init ! 6 refl ((LL.lawful Sr.the_type Sr'.the_laws 𝓛).typed s _ is_s).0) $
+            searches (s, (subst (Facts id m) (sym e) (begins id m), is_s)))
 
       -- while the borrow is open, its stage read, the number of networks is read, and the borrow is shut
       counts : Is Mg.the_row m (Mg'.lowered m ∷ []) → (q' : Share) →
@@ -263,12 +263,12 @@ module _ {M : Type 1} {𝓤 : Ura M} (𝓛 : Logic 𝓤) (mem : Memory → SProp
           (‵ (fres γ ((Mg.the_row).coded.code m)) ∷ [])) (runs C Λ E body.t-2 (at_ret E Post))
       unfolding part_of
       counts is_m q' =
-          use1 𝓛 (‵ (part_at u8 q' m.count b (o + 2)) ⊛ raw (KeptCount 𝓛 q' m 0 b o)) (count-out 𝓛 q' m 0 b o) $ split ! $
+          use1 𝓛 (‵ (part_at u8 q' m.count b (o + 2)) ⊛ raw (KeptCount 𝓛 q' m 0 b o)) (count_out 𝓛 q' m 0 b o) $ split ! $
           fpick ! (λ us. fsplit ! $ spelt ! u8 (Is u8) (shows 𝓛 u8) (uint_vals w8) (uint_Tells w8) q' m.count us b (o + 2) $
           assigns ! (of_opd ! (load ! (from ! (hop ! (look ! 15 refl) (fld ! {τ = ty_int w8} {d = 2} refl (stop !)))) (look_raw ! 0 refl))) (from ! (stop !))
           (init ! 7 refl (tt, record { fits = count_fits m is_m })) $
           fjoin ! $ fpack ! (List Val) (λ ws. fsep (cell_at q' u8.mir ws b (o + 2)) (u8.own_val m.count ws)) (uint_vals w8 m.count) $
-          use2 𝓛 (‵ (part_at Mg.the_row q' m b o)) (count-back 𝓛 q' m 0 b o) $ move ! (1 ∷ []) $ obor_close ! tt $ drop ! $
+          use2 𝓛 (‵ (part_at Mg.the_row q' m b o)) (count_back 𝓛 q' m 0 b o) $ move ! (1 ∷ []) $ obor_close ! tt $ drop ! $
           starts is_m)
 
       -- the borrow is looked into, and the stage is read
@@ -280,15 +280,15 @@ module _ {M : Type 1} {𝓤 : Ura M} (𝓛 : Logic 𝓤) (mem : Memory → SProp
           move ! (1 ∷ 0 ∷ []) $ shr_bor_dup ! $ move ! (0 ∷ 2 ∷ []) $
           shr_bor-open ! tt (part-halves 𝓛 Mg.the_row (Is Mg.the_row) (shows 𝓛 Mg.the_row) (LL.vals Mg.the_type Mg'.the_laws)
           (LL.tells Mg.the_type Mg'.the_laws) (LL.copy Mg.the_type Mg'.the_copy 𝓛) m b o) (λ q'. move ! (1 ∷ []) $
-          use1 𝓛 (given (Is Mg.the_row m (Mg'.lowered m ∷ [])) (‵ (part_at Mg.the_row q' m b o))) (manager-known 𝓛 q' m 0 b o) $ learn ! (λ is_m.
-          use1 𝓛 (‵ (part_at St.the_row q' m.stage b (o + 0)) ⊛ raw (KeptStage 𝓛 q' m 0 b o)) (stage-out 𝓛 q' m 0 b o) $ split ! $
+          use1 𝓛 (given (Is Mg.the_row m (Mg'.lowered m ∷ [])) (‵ (part_at Mg.the_row q' m b o))) (manager_known 𝓛 q' m 0 b o) $ learn ! (λ is_m.
+          use1 𝓛 (‵ (part_at St.the_row q' m.stage b (o + 0)) ⊛ raw (KeptStage 𝓛 q' m 0 b o)) (stage_out 𝓛 q' m 0 b o) $ split ! $
           fpick ! (λ vs. fsplit ! $
           spelt ! St.the_row (Is St.the_row) (shows 𝓛 St.the_row) (λ z. St'.lowered z ∷ []) (St'.lowers).val_is q' m.stage vs b (o + 0) $
           -- [the field's cell; what it owns; the rest of the share; the open borrow; the fractured borrow; _6; …]
           assigns ! (of_opd ! (load ! (from ! (hop ! (look ! 15 refl) (fld ! refl (stop !)))) (look_raw ! 0 refl))) (from ! (stop !))
           (init ! 11 refl ((EL.lawful St.the_type St'.the_laws 𝓛 tt).typed m.stage _ (stage_is m is_m)).0) $
           fjoin ! $ fpack ! (List Val) (λ us. fsep (cell_at q' (St.the_row).mir us b (o + 0)) ((St.the_row).own_val m.stage us)) (St'.lowered m.stage ∷ []) $
-          use2 𝓛 (‵ (part_at Mg.the_row q' m b o)) (stage-back 𝓛 q' m 0 b o) $
+          use2 𝓛 (‵ (part_at Mg.the_row q' m b o)) (stage_back 𝓛 q' m 0 b o) $
           counts is_m q')))
 
     walk : ent 𝓤 (on_entry 𝓛 this.signature (κ, tt) (q, tt) x at) (WpFn 𝓤 H C Λ code.function (vptr b o ∷ I'.lowered id ∷ []) Post)

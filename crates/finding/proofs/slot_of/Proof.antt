@@ -43,7 +43,7 @@ use Rattle.slots.specs.contracts.Manager as Mg
 use Rattle.slots.proofs.Manager.TheLaws as Mg'
 use Rattle.slots.specs.contracts.Slot as Sl
 use Rattle.slots.proofs.Slot.TheLaws as Sl'
-use Rattle.finding.proofs.Lent.{ref, handed-on, asks-shared}
+use Rattle.finding.proofs.Lent.{ref, handed_on, asks_shared}
 use Rattle.finding.specs.contracts.slot_in as slot-in
 use Rattle.finding.proofs.slot_in.Symbol.{name as #slot-in, routine as slot-in-routine}
 use Rattle.finding.proofs.slot_in.Met.{met as slot-in-meets}
@@ -93,11 +93,11 @@ module _ {M : Type 1} {𝓤 : Ura M} (𝓛 : Logic 𝓤) (mem : Memory → SProp
         owned ! Mg.the_row (Is Mg.the_row) (LL.makes Mg.the_type Mg'.the_plain 𝓛) m _ is_m $ move ! (1 ∷ 0 ∷ []) $ fjoin ! $
         fpack ! (List Val) (λ us. fsep (cell_at full_share (Mg.the_row).mir us l₃ 0) ((Mg.the_row).own_val m us)) (Mg'.lowered m ∷ []) $
         -- [the manager; _4; …; what frees _3; _2; …; _1; …; room for _0; …]
-        asks-shared ! fm Mg.the_row Sl.the_row Sl'.lowers l₃ 0 m (Asked 𝓛 slot-in.ended (slot-in.clauses 𝓛 mem run))
+        asks_shared ! fm Mg.the_row Sl.the_row Sl'.lowers l₃ 0 m (Asked 𝓛 slot-in.ended (slot-in.clauses 𝓛 mem run))
         (λ ν δ. (((ν ∷ [], tt), (full_share, tt), tt, (ref l₃ 0 δ m, (id, tt)), (vptr l₃ 0 ∷ [], (I'.lowered id ∷ [], tt))), tt))
         (λ ν δ. Lasts slot-in.ended (ν ∷ [], tt) (ref l₃ 0 δ m, (id, tt))) (λ ν δ. lasts slot-in.ended (ν ∷ [], tt) (ref l₃ 0 δ m, (id, tt)))
         (λ r. r ≡ slot_of m id)
-        (λ ν δ. handed-on 𝓛 (ν ∷ []) full_share ((ShrRef (named 0) (ν ∷ []) Mg.the_row).own_val (ref l₃ 0 δ m) (vptr l₃ 0 ∷ [])) (I.the_row ∷ [])
+        (λ ν δ. handed_on 𝓛 (ν ∷ []) full_share ((ShrRef (named 0) (ν ∷ []) Mg.the_row).own_val (ref l₃ 0 δ m) (vptr l₃ 0 ∷ [])) (I.the_row ∷ [])
         (EL.makes I.the_type I'.the_plain 𝓛, tt) (id, tt) (I'.lowered id ∷ [], tt) (is-id, tt) (emp 𝓤) (id⊢ 𝓤 (emp 𝓤)))
         (λ ν δ u. id⊢ 𝓤 _) slot-in-met
         (λ ν δ. and_then ! (load ! (from ! (stop !)) (look ! 2 refl)) (and_then ! (load ! (from ! (stop !)) (look ! 5 refl)) (no_more !))) (λ r is e.

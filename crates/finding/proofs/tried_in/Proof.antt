@@ -34,7 +34,7 @@ use denote.Triple.Statement.{Triple}
 use denote.Triple.Table.{entered, cited}
 use denote.Triple.Walked.{says, needs, Stays, stay_none_ref, stay_none, walk_of, Goes-none, Goes-none_ref, ends_at, walked, walk_Meets}
 use denote.Exit.{yes}
-use Rattle.fields.proofs.Calls.{Asked, asks-plainly}
+use Rattle.fields.proofs.Calls.{Asked, asks_plainly}
 use Rattle.settings.specs.declared.Network.{Network}
 use Rattle.settings.specs.declared.Id.{Id}
 use Rattle.settings.specs.contracts.Network as N
@@ -49,7 +49,7 @@ use Rattle.finding.specs.declared.Search.{Search}
 use Rattle.finding.specs.Search.{tried_with}
 use Rattle.finding.specs.contracts.Search as Sr
 use Rattle.finding.proofs.Search.TheLaws as Sr'
-use Rattle.finding.proofs.OneSlot.{network_spot, KeptNetwork, network-out, network-back}
+use Rattle.finding.proofs.OneSlot.{network_spot, KeptNetwork, network_out, network_back}
 use Rattle.finding.proofs.Lent.{ref}
 use Rattle.finding.specs.contracts.tried as tried
 use Rattle.finding.proofs.tried.Symbol.{name as #tried, routine as tried-routine}
@@ -67,7 +67,7 @@ next_fits : (s : Search) (vs : List Val) → Is Sr.the_row s vs → s.next < 2 ^
 next_fits s vs p = (LL.owed Sr.the_type Sr'.the_laws s vs p).1.1.0.1
 
 module _ {M : Type 1} {𝓤 : Ura M} (𝓛 : Logic 𝓤) (mem : Memory → SProp 𝓤) (run : Routine → Fun 𝓤) (κ : Lft) (q : Share)
-    (b o : ℕ) (γ : GName) (m : Manager) (s : Search) (id : Id) (is-s : Is Sr.the_row s (Sr'.lowered s ∷ [])) (is-id : Is I.the_row id (I'.lowered id ∷ [])) where
+    (b o : ℕ) (γ : GName) (m : Manager) (s : Search) (id : Id) (is_s : Is Sr.the_row s (Sr'.lowered s ∷ [])) (is-id : Is I.the_row id (I'.lowered id ∷ [])) where
   open 𝓛 use {H}
 
   abbrev x : Bor Manager × (Search × (Id × Unit {0}))
@@ -91,7 +91,7 @@ module _ {M : Type 1} {𝓤 : Ura M} (𝓛 : Logic 𝓤) (mem : Memory → SProp
       (tt, (tt, (tt, tt))) (tt, (tt, (tt, tt)))) $ says ! e $
       nothing ! $ move ! (1 ∷ 0 ∷ []) $ join ! $ frame ! $ move ! (1 ∷ 0 ∷ []) $ feq_i ! (List Val) (vptr b o ∷ []) (vptr b o ∷ []) refl $ fjoin3 ! $
       nothing ! $ owned ! I.the_row (Is I.the_row) (EL.makes I.the_type I'.the_plain 𝓛) id _ is-id $ fjoin ! $
-      owned ! Sr.the_row (Is Sr.the_row) (LL.makes Sr.the_type Sr'.the_plain 𝓛) s _ is-s $ fjoin ! $ move ! (1 ∷ 0 ∷ []) $ fjoin ! $ frame ! $
+      owned ! Sr.the_row (Is Sr.the_row) (LL.makes Sr.the_type Sr'.the_plain 𝓛) s _ is_s $ fjoin ! $ move ! (1 ∷ 0 ∷ []) $ fjoin ! $ frame ! $
       owned ! Sr.the_row (Is Sr.the_row) (LL.makes Sr.the_type Sr'.the_plain 𝓛) r _ is $ done !
 
   module _ (C : Calls 𝓤 H) (Λ : Loops 𝓤 H) (fm : FmC 𝓤 H 𝓛.laws C)
@@ -106,11 +106,11 @@ module _ {M : Type 1} {𝓤 : Ura M} (𝓛 : Logic 𝓤) (mem : Memory → SProp
         enter ! C Λ code.function (vptr b o ∷ Sr'.lowered s ∷ I'.lowered id ∷ []) _ $
         alloc1 ! (λ l₀. alloc1 ! (λ l₁. alloc1 ! (λ l₂. alloc1 ! (λ l₃. alloc1 ! (λ l₄. alloc1 ! (λ l₅. alloc1 ! (λ l₆. alloc1 ! (λ l₇. alloc1 ! (λ l₈.
         alloc0 ! $ params1 ! $ pass1 ! (init ! 14 refl (tt, tt)) $
-        pass1 ! (init ! 12 refl ((LL.lawful Sr.the_type Sr'.the_laws 𝓛).typed s _ is-s).0) $
+        pass1 ! (init ! 12 refl ((LL.lawful Sr.the_type Sr'.the_laws 𝓛).typed s _ is_s).0) $
         pass1 ! (init ! 10 refl ((EL.lawful I.the_type I'.the_laws 𝓛 tt).typed id _ is-id).0) $ pass0 ! $
         -- the address of the network
         assigns ! (of_opd ! (load ! (from ! (fld ! refl (stop !))) (look_in ! 12 (sub ! 2 refl (whole !))))) (from ! (stop !))
-        (init ! 8 refl (tt, record { fits = next_fits s _ is-s })) $
+        (init ! 8 refl (tt, record { fits = next_fits s _ is_s })) $
         assigns ! (bin ! (load ! (from ! (stop !)) (look ! 8 refl)) (lit ! tt) (record { fits = far })) (from ! (stop !))
         (init ! 6 refl (tt, record { fits = far })) $
         assigns ! (addr ! (from ! (hop ! (look ! 14 refl) (fld ! refl (stop !))))) (from ! (stop !)) (init ! 4 refl (tt, tt)) $
@@ -121,7 +121,7 @@ module _ {M : Type 1} {𝓤 : Ura M} (𝓛 : Logic 𝓤) (mem : Memory → SProp
         shr_bor-open ! tt (part-halves 𝓛 Mg.the_row (Is Mg.the_row) (shows 𝓛 Mg.the_row) (LL.vals Mg.the_type Mg'.the_laws)
         (LL.tells Mg.the_type Mg'.the_laws) (LL.copy Mg.the_type Mg'.the_copy 𝓛) m b o) (λ q'. move ! (1 ∷ []) $
         use1 𝓛 (‵ (part_at N.the_row q' n b (network_spot o s.next)) ⊛ raw (KeptNetwork 𝓛 q' m s.next b o))
-        (network-out 𝓛 q' m s.next b o within) $ split ! $
+        (network_out 𝓛 q' m s.next b o within) $ split ! $
         fpick ! (λ vs. fsplit ! $ spelt ! N.the_row (Is N.the_row) (shows 𝓛 N.the_row) (λ z. N'.lowered z ∷ [])
         (N'.lowers).val_is q' n vs b (network_spot o s.next) $
         move ! (1 ∷ []) $ peeks ! N.the_row (Is N.the_row) (shows 𝓛 N.the_row) n (N'.lowered n ∷ []) (λ is-n. move ! (1 ∷ 0 ∷ []) $
@@ -131,13 +131,13 @@ module _ {M : Type 1} {𝓤 : Ura M} (𝓛 : Logic 𝓤) (mem : Memory → SProp
         -- it is put back, and the borrow is shut
         fjoin ! $ fpack ! (List Val) (λ us. fsep (cell_at q' (N.the_row).mir us b (network_spot o s.next)) ((N.the_row).own_val n us))
         (N'.lowered n ∷ []) $
-        use2 𝓛 (‵ (part_at Mg.the_row q' m b o)) (network-back 𝓛 q' m s.next b o within) $ move ! (1 ∷ []) $ obor_close ! tt $ drop ! $
+        use2 𝓛 (‵ (part_at Mg.the_row q' m b o)) (network_back 𝓛 q' m s.next b o within) $ move ! (1 ∷ []) $ obor_close ! tt $ drop ! $
         -- [the token; the fractured borrow; _8; …]
         let y : (Asked 𝓛 tried.ended (tried.clauses 𝓛 mem run)).Ghost =
         ((tt, tt, tt, (s, (n, (id, tt))), (Sr'.lowered s ∷ [], (N'.lowered n ∷ [], (I'.lowered id ∷ [], tt)))), tt) in
-        asks-plainly ! fm tried.ended (tried.clauses 𝓛 mem run) y (id⊢ 𝓤 (emp 𝓤))
+        asks_plainly ! fm tried.ended (tried.clauses 𝓛 mem run) y (id⊢ 𝓤 (emp 𝓤))
         (LL.makes Sr.the_type Sr'.the_plain 𝓛, (LL.makes N.the_type N'.the_plain 𝓛, (EL.makes I.the_type I'.the_plain 𝓛, tt)))
-        (is-s, (is-n, (is-id, tt))) (fact_i 𝓤 (s.next < 8) (emp 𝓤) within) Sr'.lowers (λ r. r ≡ tried_with s n id) (λ r ws. refl) (tried-met y)
+        (is_s, (is-n, (is-id, tt))) (fact_i 𝓤 (s.next < 8) (emp 𝓤) within) Sr'.lowers (λ r. r ≡ tried_with s n id) (λ r ws. refl) (tried-met y)
         (and_then ! (load ! (from ! (stop !)) (look ! 15 refl)) (and_then ! (load ! (from ! (stop !)) (look ! 3 refl))
         (and_then ! (load ! (from ! (stop !)) (look ! 13 refl)) (no_more !)))) (λ r is e.
         land ! (from ! (stop !)) (init ! 18 refl ((LL.lawful Sr.the_type Sr'.the_laws 𝓛).typed r _ is).0) $

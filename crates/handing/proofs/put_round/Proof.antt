@@ -2,7 +2,7 @@
 use Rattle.lists.proofs.Basics.{◌-◌, ◌<◌, ◌≤◌, min, arith, needs, ◌≡◌, refl, ◌∙◌, map, map-append, length, take}
 use Rattle.lists.proofs.Parts.{take_min}
 use Rattle.records.specs.Wrote.{Wrote}
-use Rattle.records.proofs.Laws.{wrote_none, wrote_length, wrote-more, room-more}
+use Rattle.records.proofs.Laws.{wrote_none, wrote_length, wrote_more, room_more}
 use Rattle.handing.specs.Handing.{round_record}
 use Rattle.handing.proofs.put_round.Statement.{statement}
 use Rattle.handing.proofs.put_round.Tie as tie
@@ -22,7 +22,7 @@ put_record_requires c κs =
     let h : l.i < length s.args.network.controllers = omega arith in
     let f = round_record s.args.round in
     rw c.before.round-record.ensures
-    (room-more (map f) (map-append f) s.args.network.controllers l.i _ h l.invariant.2 s.args.network.count (omega arith) s.requires)
+    (room_more (map f) (map-append f) s.args.network.controllers l.i _ h l.invariant.2 s.args.network.count (omega arith) s.requires)
 
 loop_again : tie.Need-loop-preserved invariant_loop decreases_loop
 loop_again c =
@@ -32,7 +32,7 @@ loop_again c =
     let four : length a.network.controllers ≡ 4 = search needs in
     let h : l.i < length a.network.controllers = omega arith in
     let f = round_record a.round in
-    (omega arith, wrote_length p ∙ l.invariant.1, wrote-more (map f) (map-append f) a.network.controllers l.i _ h l.invariant.2 p)
+    (omega arith, wrote_length p ∙ l.invariant.1, wrote_more (map f) (map-append f) a.network.controllers l.i _ h l.invariant.2 p)
 
 returns : tie.Need-returns invariant_loop decreases_loop
 returns c =

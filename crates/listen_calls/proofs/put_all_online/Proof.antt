@@ -4,7 +4,7 @@ use Rattle.lists.proofs.Parts.{unmapped}
 use Rattle.records.specs.Wrote.{Wrote}
 use Rattle.records.proofs.Laws.{wrote_length}
 use Rattle.slots.specs.Manager.{gathered, controller_count, listen_needs}
-use Rattle.lent_calls.proofs.Gathered.{gathered_none, gather-room, gather-wrote}
+use Rattle.lent_calls.proofs.Gathered.{gathered_none, gather_room, gather_wrote}
 use Rattle.listen_calls.proofs.Online.{online_of, online_fits, online_end}
 use Rattle.listen_calls.proofs.put_all_online.Statement.{statement}
 use Rattle.listen_calls.proofs.put_all_online.Tie as tie
@@ -25,7 +25,7 @@ put_online_requires c κs =
     let eight : length m.networks ≡ 8 = search (unmapped, needs) in
     let h : l.loop.i < length m.networks = omega arith in
     let g : l.loop.i < m.count = omega arith in
-    gather-room online_of controller_count (λ n s. online_fits n s.step) m.networks m.states l.loop.i _ h l.loop.invariant.2 _
+    gather_room online_of controller_count (λ n s. online_fits n s.step) m.networks m.states l.loop.i _ h l.loop.invariant.2 _
     (online_fits _ _) m.count g entry.requires
 
 loop_again : tie.Need-loop-preserved invariant_loop decreases_loop
@@ -37,7 +37,7 @@ loop_again c =
     let h : l.loop.i < length m.networks = omega arith in
     let k : l.loop.i < length m.states = omega arith in
     let w = c.before.before.put-online.ensures in
-    (omega arith, wrote_length w ∙ l.loop.invariant.1, gather-wrote online_of m.networks m.states l.loop.i _ _ h k l.loop.invariant.2 w)
+    (omega arith, wrote_length w ∙ l.loop.invariant.1, gather_wrote online_of m.networks m.states l.loop.i _ _ h k l.loop.invariant.2 w)
 
 returns : tie.Need-returns invariant_loop decreases_loop
 returns c =

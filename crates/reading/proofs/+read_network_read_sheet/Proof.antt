@@ -71,26 +71,26 @@ module _ {M : Type 1} {𝓤 : Ura M} (𝓛 : Logic 𝓤) (mem : Memory → SProp
   -- each function as a cycle takes it, with its measure
   open 𝓛 use {H}
 
-  abbrev net-stated : Stated 𝓤
-  net-stated = record { signature = net.signature; run = 𝓣.C #net; spec = net.spec 𝓛 mem run }
+  abbrev net_stated : Stated 𝓤
+  net_stated = record { signature = net.signature; run = 𝓣.C #net; spec = net.spec 𝓛 mem run }
 
-  abbrev sheet-stated : Stated 𝓤
-  sheet-stated = record { signature = sheet.signature; run = 𝓣.C #sheet; spec = sheet.spec 𝓛 mem run }
+  abbrev sheet_stated : Stated 𝓤
+  sheet_stated = record { signature = sheet.signature; run = 𝓣.C #sheet; spec = sheet.spec 𝓛 mem run }
 
-  abbrev net-grade : Graded 𝓛 ℕ net-stated
-  net-grade = measured 𝓛 net-stated (λ y. unread y.0.3.0)
+  abbrev net_grade : Graded 𝓛 ℕ net_stated
+  net_grade = measured 𝓛 net_stated (λ y. unread y.0.3.0)
 
-  abbrev sheet-grade : Graded 𝓛 ℕ sheet-stated
-  sheet-grade = measured 𝓛 sheet-stated (λ y. unread y.0.3.0)
+  abbrev sheet_grade : Graded 𝓛 ℕ sheet_stated
+  sheet_grade = measured 𝓛 sheet_stated (λ y. unread y.0.3.0)
 
   module _ (next-met : Triple 𝓤 (𝓣.C #next) (Asked 𝓛 next.ended (next.clauses 𝓛 mem run)))
       (moved-met : Triple 𝓤 (𝓣.C #moved) (Asked 𝓛 moved.ended (moved.clauses 𝓛 mem run)))
       (refuse-met : Triple 𝓤 (𝓣.C #refuse) (Asked 𝓛 refuse.ended (refuse.clauses 𝓛 mem run)))
-      (t : ℕ) (net-below : Below 𝓛 net-grade (λ s. s < t)) (sheet-below : Below 𝓛 sheet-grade (λ s. s < t)) where
-    net-method : Triple 𝓤 (𝓣.C #fill) (Asked 𝓛 fill.ended (fill.clauses 𝓛 mem run))
+      (t : ℕ) (net-below : Below 𝓛 net_grade (λ s. s < t)) (sheet-below : Below 𝓛 sheet_grade (λ s. s < t)) where
+    net_method : Triple 𝓤 (𝓣.C #fill) (Asked 𝓛 fill.ended (fill.clauses 𝓛 mem run))
         → Triple 𝓤 (𝓣.C #push) (Asked 𝓛 push.ended (push.clauses 𝓛 mem run))
-        → Closed 𝓤 H 𝓣.C 𝓣.Λ #net code.read-network-function → net-grade.At t
-    net-method fill-met push-met closed =
+        → Closed 𝓤 H 𝓣.C 𝓣.Λ #net code.read-network-function → net_grade.At t
+    net_method fill-met push-met closed =
         at_on 𝓛 net.signature (net.spec 𝓛 mem run) (WpFn 𝓤 H 𝓣.C 𝓣.Λ code.read-network-function) (𝓣.C #net) closed
         (λ y. unread y.0.3.0) t (λ y e.
         walk_meets_at 𝓛 net.ended network-walk.stayed (
@@ -113,12 +113,12 @@ module _ {M : Type 1} {𝓤 : Ura M} (𝓛 : Logic 𝓤) (mem : Memory → SProp
         (λ y' lt. net-below (unread y'.0.3.0) (subst (λ (s : ℕ). unread y'.0.3.0 < s) e lt) y' refl)
         (λ y' lt. sheet-below (unread y'.0.3.0) (subst (λ (s : ℕ). unread y'.0.3.0 < s) e lt) y' refl)))))
 
-    sheet-method : Triple 𝓤 (𝓣.C #opening) (Asked 𝓛 opening.ended (opening.clauses 𝓛 mem run))
+    sheet_method : Triple 𝓤 (𝓣.C #opening) (Asked 𝓛 opening.ended (opening.clauses 𝓛 mem run))
         → Triple 𝓤 (𝓣.C #begin) (Asked 𝓛 begin.ended (begin.clauses 𝓛 mem run))
         → Triple 𝓤 (𝓣.C #amend) (Asked 𝓛 amend.ended (amend.clauses 𝓛 mem run))
         → Triple 𝓤 (𝓣.C #close) (Asked 𝓛 close.ended (close.clauses 𝓛 mem run))
-        → Closed 𝓤 H 𝓣.C 𝓣.Λ #sheet code.read-sheet-function → sheet-grade.At t
-    sheet-method opening-met begin-met amend-met close-met closed =
+        → Closed 𝓤 H 𝓣.C 𝓣.Λ #sheet code.read-sheet-function → sheet_grade.At t
+    sheet_method opening-met begin-met amend-met close-met closed =
         at_on 𝓛 sheet.signature (sheet.spec 𝓛 mem run) (WpFn 𝓤 H 𝓣.C 𝓣.Λ code.read-sheet-function) (𝓣.C #sheet) closed
         (λ y. unread y.0.3.0) t (λ y e.
         walk_meets_at 𝓛 sheet.ended sheet-walk.stayed (
@@ -145,13 +145,13 @@ unfolding code.read-network-routine code.read-sheet-routine tables_of
     let refuse-met = cited 𝓤 𝓛.H (Asked 𝓛 refuse.ended (refuse.clauses 𝓛 mem run)) 𝓜 𝓡 code.env #refuse refuse-routine
     code.calls-reading-parts::refuse-entry (refuse-meets 𝓛 𝓜 𝓡) in
     mutual_elim 𝓛 (cycle.functions 𝓛 mem run) ◌<◌ lt-wf_rel.wf
-    (net-grade 𝓛 mem run 𝓣, sheet-grade 𝓛 mem run 𝓣)
-    (λ t below. net-method 𝓛 mem run 𝓣 next-met moved-met refuse-met t below.0 below.1
+    (net_grade 𝓛 mem run 𝓣, sheet_grade 𝓛 mem run 𝓣)
+    (λ t below. net_method 𝓛 mem run 𝓣 next-met moved-met refuse-met t below.0 below.1
     (cited 𝓤 𝓛.H (Asked 𝓛 fill.ended (fill.clauses 𝓛 mem run)) 𝓜 𝓡 code.env #fill fill-routine code.calls-grammar::fill-network
     (fill-Meets 𝓛 𝓜 𝓡))
     (cited 𝓤 𝓛.H (Asked 𝓛 push.ended (push.clauses 𝓛 mem run)) 𝓜 𝓡 code.env #push push-routine code.calls-reading-parts::push-network
     (push-meets 𝓛 𝓜 𝓡)) (code.read-network-unfolded 𝓤 𝓛.H 𝓜 𝓡))
-    (λ t below. sheet-method 𝓛 mem run 𝓣 next-met moved-met refuse-met t below.0 below.1
+    (λ t below. sheet_method 𝓛 mem run 𝓣 next-met moved-met refuse-met t below.0 below.1
     (cited 𝓤 𝓛.H (Asked 𝓛 opening.ended (opening.clauses 𝓛 mem run)) 𝓜 𝓡 code.env #opening opening-routine code.calls-grammar::open-network
     (opening-meets 𝓛 𝓜 𝓡))
     (cited 𝓤 𝓛.H (Asked 𝓛 begin.ended (begin.clauses 𝓛 mem run)) 𝓜 𝓡 code.env #begin begin-routine code.calls-grammar::begin-network

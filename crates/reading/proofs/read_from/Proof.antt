@@ -31,7 +31,7 @@ use denote.Triple.Walked.{says, Stays, stay_dropped, walk_of, Goes-dropped, ends
 use denote.Exit.{yes}
 use Rattle.fields.specs.declared.Reader.{Reader}
 use Rattle.fields.specs.Fields.{row_at}
-use Rattle.fields.proofs.Calls.{B, Own, token, Asked, handed, asks, asks-plainly}
+use Rattle.fields.proofs.Calls.{B, Own, token, Asked, handed, asks, asks_plainly}
 use Rattle.fields.specs.contracts.Reader as Rd
 use Rattle.fields.proofs.Reader.TheLaws as Rd'
 use Rattle.settings.specs.Settings.{blank_settings}
@@ -89,15 +89,15 @@ module _ {M : Type 1} {𝓤 : Ura M} (𝓛 : Logic 𝓤) (mem : Memory → SProp
         -- [the token; what the reader owns; _3; …; _2; …; _1; …; room for _0; …]
         assigns ! (of_opd ! (load ! (from ! (stop !)) (look ! 6 refl)))
         (from ! (stop !)) (init ! 4 refl ((LL.lawful (Rd.the_type αᵉ) (Rd'.the_laws αᵉ) 𝓛).typed d _ is-d).0) $
-        asks-plainly ! fm blank.ended (blank.clauses 𝓛 mem run) ((tt, tt, tt, tt, tt), tt) (id⊢ 𝓤 (emp 𝓤)) tt tt (id⊢ 𝓤 (emp 𝓤))
-        Se'.lowers (λ s. s ≡ blank_settings) (λ s ws. refl) (blank-met _) (no_more !) (λ s is-s e-s.
-        land ! (from ! (stop !)) (init ! 2 refl ((LL.lawful Se.the_type Se'.the_laws 𝓛).typed s _ is-s).0) $
+        asks_plainly ! fm blank.ended (blank.clauses 𝓛 mem run) ((tt, tt, tt, tt, tt), tt) (id⊢ 𝓤 (emp 𝓤)) tt tt (id⊢ 𝓤 (emp 𝓤))
+        Se'.lowers (λ s. s ≡ blank_settings) (λ s ws. refl) (blank-met _) (no_more !) (λ s is_s e-s.
+        land ! (from ! (stop !)) (init ! 2 refl ((LL.lawful Se.the_type Se'.the_laws 𝓛).typed s _ is_s).0) $
         let y : (Asked 𝓛 reads.ended (reads.clauses 𝓛 mem run)).Ghost =
         (((κ, tt), (q, tt), tt, (d, (s, tt)), (Rd'.lowered d ∷ [], (Se'.lowered s ∷ [], tt))), tt) in join ! $
         asks ! fm reads.ended (reads.clauses 𝓛 mem run) y
         Rg'.lowers (λ r. r ≡ sheet (row_at d.bytes.now d.place) s) (λ r ws. refl) (token 𝓛 κ q ⊛ ‵ (Own κ d))
         (handed 𝓛 (toks 𝓛 1 (κ, tt) (q, tt)) (Own κ d) (Se.the_row ∷ []) (LL.makes Se.the_type Se'.the_plain 𝓛, tt)
-        (s, tt) (Se'.lowered s ∷ [], tt) (is-s, tt) (emp 𝓤) (id⊢ 𝓤 (emp 𝓤))) (reads-met y)
+        (s, tt) (Se'.lowered s ∷ [], tt) (is_s, tt) (emp 𝓤) (id⊢ 𝓤 (emp 𝓤))) (reads-met y)
         (and_then ! (load ! (from ! (stop !)) (look ! 3 refl)) (and_then ! (load ! (from ! (stop !)) (look ! 1 refl)) (no_more !))) (λ r is-r e-r.
         land ! (from ! (stop !)) (init ! 8 refl ((LL.lawful Rg.the_type Rg'.the_laws 𝓛).typed r _ is-r).0) $
         returns ! (look ! 8 refl) $ forget ! 2 refl $ forget ! 4 refl $ forget ! 6 refl $ forget ! 8 refl $

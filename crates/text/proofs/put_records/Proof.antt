@@ -3,7 +3,7 @@ use Rattle.lists.proofs.Basics.{◌+◌, ◌-◌, ◌*◌, ◌≤◌, arith, nee
 use Rattle.records.specs.declared.Record.{Record}
 use Rattle.records.specs.Records.{handed, records_at}
 use Rattle.lists.specs.Stores.{Stored}
-use Rattle.lists.proofs.Stores.{stored_none, stored-length, stored_more}
+use Rattle.lists.proofs.Stores.{stored_none, stored_length, stored_more}
 use Rattle.text.specs.Text.{records_text}
 use Rattle.text.proofs.Laws.{text_append, records_length, record_at_lem}
 use Rattle.text.proofs.put_records.Statement.{statement}
@@ -19,7 +19,7 @@ decreases_loop line₀ at buffer count to₀ i₀ line to i = count - i
 put_record_requires : tie.Need-put-record-requires invariant_loop decreases_loop
 put_record_requires c κs =
     let l = c.before.before.before.before.before.loop in
-    omega (arith, l.invariant.2, stored-length l.invariant.1, c.before.before.before.before.before.before.before.before.requires.1)
+    omega (arith, l.invariant.2, stored_length l.invariant.1, c.before.before.before.before.before.before.before.before.requires.1)
 
 loop_again : tie.Need-loop-preserved invariant_loop decreases_loop
 loop_again c =
@@ -46,4 +46,4 @@ returns c =
 pub put_records_spec : {M : Type 1} → statement M
 put_records_spec = tie.close (tie.spec invariant_loop decreases_loop (λ c. unfold records_text in (omega arith, stored_none _ _, omega arith)) (λ c. search needs)
     (λ c. search needs) (λ c. search needs) (λ c. search needs) (λ c. search needs) (λ c. search needs) put_record_requires (λ c. search needs)
-    (λ c. omega arith) loop_again (λ c. stored-length c.before.loop.invariant.1) returns)
+    (λ c. omega arith) loop_again (λ c. stored_length c.before.loop.invariant.1) returns)

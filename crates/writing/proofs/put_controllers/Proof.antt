@@ -2,7 +2,7 @@
 use Rattle.lists.proofs.Basics.{ℕ, ◌-◌, ◌≤◌, arith, needs, ◌≡◌, List, [], length, take}
 use Rattle.lists.specs.Stores.{Stored}
 use Rattle.lists.proofs.Parts.{take_min}
-use Rattle.lists.proofs.Stores.{stored_none, stored-length, stored_more, room-more}
+use Rattle.lists.proofs.Stores.{stored_none, stored_length, stored_more, room_more}
 use Rattle.sheet.specs.Encode.{encode_controllers}
 use Rattle.sheet.proofs.Writes.{controllers_append}
 use Rattle.writing.proofs.put_controllers.Statement.{statement}
@@ -19,7 +19,7 @@ unfolding encode_controllers
 put_byte_field_requires c κs =
     let l = c.before.before.loop in let s = c.before.before.before.before.before.before in
     let e : length s.args.network.controllers ≡ 4 = search needs in
-    room-more (λ (ids : List ℕ). encode_controllers ids []) controllers_append
+    room_more (λ (ids : List ℕ). encode_controllers ids []) controllers_append
     s.args.network.controllers l.i 0 (omega arith) l.invariant.1 s.args.network.count (omega arith) s.requires
 
 loop_again : tie.Need-loop-preserved invariant_loop decreases_loop
@@ -41,5 +41,5 @@ returns c =
 
 pub put_controllers_spec : {M : Type 1} → statement M
 put_controllers_spec = tie.close (tie.spec invariant_loop decreases_loop (λ c κs. search needs) (λ c. unfold encode_controllers in (omega arith, stored_none _ _))
-    (λ c. omega arith) put_byte_field_requires (λ c. omega arith) (λ c. omega arith) loop_again (λ c. stored-length c.before.loop.invariant.1)
+    (λ c. omega arith) put_byte_field_requires (λ c. omega arith) (λ c. omega arith) loop_again (λ c. stored_length c.before.loop.invariant.1)
     returns)

@@ -1,6 +1,6 @@
 -- `writing::put_network` meets its contract: its fields one after the other are the network.
 use Rattle.lists.proofs.Basics.{arith, [], needs}
-use Rattle.lists.proofs.Stores.{stored-then}
+use Rattle.lists.proofs.Stores.{stored_then}
 use Rattle.sheet.proofs.Writes.{network_fields, length_parts}
 use Rattle.writing.proofs.put_network.Statement.{statement}
 use Rattle.writing.proofs.put_network.Tie as tie
@@ -39,10 +39,10 @@ returns c =
     let handle = controllers.before.before.before.before in
     let s = handle.before.before.before.before in
     let e = network_fields s.args.network handle.before.before.partial-value.result [] handle.before.before.partial-value.ensures in
-    rw (← e) (stored-then
-    handle.put-byte-field.ensures (stored-then controllers.put-controllers.ensures (stored-then transceiver.put-transceiver.ensures
-    (stored-then times.put-times.ensures (stored-then threshold.put-byte-field2.ensures
-    (stored-then partial.put-byte-field3.ensures c.before.before.put-relation.ensures))))))
+    rw (← e) (stored_then
+    handle.put-byte-field.ensures (stored_then controllers.put-controllers.ensures (stored_then transceiver.put-transceiver.ensures
+    (stored_then times.put-times.ensures (stored_then threshold.put-byte-field2.ensures
+    (stored_then partial.put-byte-field3.ensures c.before.before.put-relation.ensures))))))
 
 pub put_network_spec : {M : Type 1} → statement M
 put_network_spec = tie.close (tie.spec (λ c κs. search needs) (λ c κs. omega (arith, length_parts c.before.before.before.args.network))

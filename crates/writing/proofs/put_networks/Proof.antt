@@ -2,7 +2,7 @@
 use Rattle.lists.proofs.Basics.{◌-◌, ◌≤◌, arith, needs, ◌≡◌, ap, ◌∙◌, List, [], length, take, length-map, sets}
 use Rattle.lists.specs.Stores.{Stored}
 use Rattle.lists.proofs.Parts.{take_min}
-use Rattle.lists.proofs.Stores.{stored_none, stored-length, stored_more, room-more}
+use Rattle.lists.proofs.Stores.{stored_none, stored_length, stored_more, room_more}
 use Rattle.settings.specs.declared.Network.{Network}
 use Rattle.sheet.specs.Encode.{encode_networks, encode}
 use Rattle.sheet.proofs.Writes.{networks_append}
@@ -20,7 +20,7 @@ unfolding encode_networks encode
 put_network_requires c κs =
     let l = c.before.before.before.loop in let s = c.before.before.before.before.before.before.before in
     let e : length s.args.settings.networks ≡ 8 = simp length-map at s.well-formed.1.0.1.1.0.1.0.1 in
-    room-more (λ (ns : List Network). encode_networks ns []) networks_append
+    room_more (λ (ns : List Network). encode_networks ns []) networks_append
     s.args.settings.networks l.i _ (omega arith) l.invariant.1 s.args.settings.count (omega arith) (omega (arith, s.requires))
 
 loop_again : tie.Need-loop-preserved invariant_loop decreases_loop
@@ -45,4 +45,4 @@ returns c =
 pub put_networks_spec : {M : Type 1} → statement M
 put_networks_spec = tie.close (tie.spec invariant_loop decreases_loop (λ c κs. search needs) (λ c. unfold encode_networks in (omega arith, stored_none _ _))
     (λ c. omega arith) (λ c. omega arith) put_network_requires (λ c. omega arith) (λ c. omega arith) loop_again
-    (λ c. stored-length c.before.loop.invariant.1) returns)
+    (λ c. stored_length c.before.loop.invariant.1) returns)

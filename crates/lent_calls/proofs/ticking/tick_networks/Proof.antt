@@ -9,7 +9,7 @@ use Rattle.settings.specs.Settings.{blank_network}
 use Rattle.network.specs.Moving.{tick_state, tick_records}
 use Rattle.slots.specs.Manager.{each, gathered, tick_needs}
 use Rattle.slots.proofs.Each.{each_none, each_more}
-use Rattle.lent_calls.proofs.Ticks.{tick-room, tick-wrote, rests_so, rest-kept, rest-wrote, ticks_end}
+use Rattle.lent_calls.proofs.Ticks.{tick_room, tick_wrote, rests_so, rest_kept, rest_wrote, ticks_end}
 use Rattle.lent_calls.proofs.Gathered.{gathered_none}
 use Rattle.lent_calls.proofs.ticking.tick_networks.Statement.{statement}
 use Rattle.lent_calls.proofs.ticking.tick_networks.Tie as tie
@@ -33,7 +33,7 @@ tick_requires c κs =
     let h : l.i < length m.networks = omega arith in
     let k : l.i < length m.states = omega arith in
     let g : l.i < m.count = omega arith in
-    tick-room _ _ _ _ _ _ h k l.invariant.2 l.invariant.3 m.count g a.requires
+    tick_room _ _ _ _ _ _ h k l.invariant.2 l.invariant.3 m.count g a.requires
 
 loop_again : tie.Need-loop-preserved invariant_loop decreases_loop
 loop_again c =
@@ -48,9 +48,9 @@ loop_again c =
       omega arith,
       ⊎_elim (λ w. ap length w.7 ∙ wrote_length w.3.ensures.1 ∙ l.invariant.1) (λ w. ap length w.1 ∙ l.invariant.1) c.if1.branch,
       ⊎_elim (λ w. w.8 ∙ each_more tick_state _ _ _ _ _ _ h k l.invariant.2 _ w.3.ensures.0)
-          (λ w. w.2 ∙ rest-kept _ _ _ _ blank_network _ h k l.invariant.2 l.invariant.3 (rests_so _ r w.0.left)) c.if1.branch,
-      ⊎_elim (λ w. rw (w.7, w.9) (tick-wrote _ _ _ _ _ _ h k l.invariant.2 l.invariant.3 w.3.ensures.1))
-          (λ w. rw (w.1, w.3) (rest-wrote _ _ _ _ blank_network _ h k l.invariant.2 l.invariant.3 (rests_so _ r w.0.left))) c.if1.branch,
+          (λ w. w.2 ∙ rest_kept _ _ _ _ blank_network _ h k l.invariant.2 l.invariant.3 (rests_so _ r w.0.left)) c.if1.branch,
+      ⊎_elim (λ w. rw (w.7, w.9) (tick_wrote _ _ _ _ _ _ h k l.invariant.2 l.invariant.3 w.3.ensures.1))
+          (λ w. rw (w.1, w.3) (rest_wrote _ _ _ _ blank_network _ h k l.invariant.2 l.invariant.3 (rests_so _ r w.0.left))) c.if1.branch,
     )
 
 returns : tie.Need-returns invariant_loop decreases_loop

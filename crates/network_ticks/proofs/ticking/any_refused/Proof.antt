@@ -1,7 +1,7 @@
 -- `network_ticks::ticking::any_refused` meets its contract: none of the first `i` answers is a refusal.
 use Rattle.lists.proofs.Basics.{◌-◌, ◌<◌, ◌≤◌, arith, needs, ◌≡◌, refl, sym, ◌∙◌, false, length, take}
 use Rattle.lists.specs.Lists.{any}
-use Rattle.lists.proofs.Any.{any-more, any_found, any-end}
+use Rattle.lists.proofs.Any.{any_more, any_found, any_end}
 use Rattle.lists.proofs.Parts.{unmapped}
 use Rattle.network.specs.declared.Heard.{Heard}
 use Rattle.network.specs.Rules.{is_refusal}
@@ -27,14 +27,14 @@ loop_again : tie.Need-loop-preserved invariant_loop decreases_loop
 loop_again c =
     let l = c.before.before.before.before.loop in
     let a = c.before.before.before.before.before.before.before.args in
-    (omega arith, any-more is_refusal a.state.answers l.i _ l.invariant.1 (sym c.before.is-refusal.ensures ∙ c.if1.false))
+    (omega arith, any_more is_refusal a.state.answers l.i _ l.invariant.1 (sym c.before.is-refusal.ensures ∙ c.if1.false))
 
 returns_2 : tie.Need-returns-2 invariant_loop decreases_loop
 returns_2 c =
     let l = c.before.loop in
     let a = c.before.before.before.before.args in
     let e : length a.state.answers ≡ 4 = search (unmapped, needs) in
-    sym (any-end is_refusal a.state.answers l.i a.network.count (omega arith) l.invariant.1)
+    sym (any_end is_refusal a.state.answers l.i a.network.count (omega arith) l.invariant.1)
 
 pub any_refused_spec : {M : Type 1} → statement M
 any_refused_spec = tie.close (tie.spec invariant_loop decreases_loop (λ c κs. search needs) (λ c. unfold any in (omega arith, refl)) (λ c. search needs)

@@ -1,5 +1,5 @@
 -- `network_ticks::ticking::tick` meets its contract.
-use Rattle.network_ticks.proofs.Laws.{tick-room, tick_gives}
+use Rattle.network_ticks.proofs.Laws.{tick_room, tick_gives}
 use Rattle.lists.proofs.Basics.{needs}
 use Rattle.network_ticks.proofs.ticking.tick.Statement.{statement}
 use Rattle.network_ticks.proofs.ticking.tick.Tie as tie
@@ -7,7 +7,7 @@ use Rattle.network_ticks.proofs.ticking.tick.Tie as tie
 put_move_requires : tie.Need-put-move-requires
 put_move_requires c κs =
     let s = c.before.before.before in
-    tick-room s.args.network s.args.state _ c.before.choose.ensures s.requires
+    tick_room s.args.network s.args.state _ c.before.choose.ensures s.requires
 
 returns : tie.Need-returns
 returns c =

@@ -1,6 +1,6 @@
 -- `network_troubles::striking::strike` meets its contract.
 use Rattle.lists.proofs.Basics.{needs}
-use Rattle.network_troubles.proofs.Laws.{room-recover, room-reset, struck-recover, struck-restart, struck-reset, struck-not-taken}
+use Rattle.network_troubles.proofs.Laws.{room_recover, room_reset, struck_recover, struck_restart, struck_reset, struck_not_taken}
 use Rattle.network_troubles.proofs.striking.strike.Statement.{statement}
 use Rattle.network_troubles.proofs.striking.strike.Tie as tie
 
@@ -8,40 +8,40 @@ returns : tie.Need-returns
 returns c =
     let h = c.before.before.before.before in
     let a = h.before.before.before.before.before.args in
-    struck-recover a.network a.state a.trouble _ h.before.before.before.hit-by.ensures _ h.before.before.hit-part.ensures
+    struck_recover a.network a.state a.trouble _ h.before.before.before.hit-by.ensures _ h.before.before.hit-part.ensures
     h.enum_told.given.1 c.before.before.put-recovery.ensures
 
 returns_2 : tie.Need-returns-2
 returns_2 c =
     let a = c.before.before.before.before.before.args in
-    struck-restart a.network a.state a.trouble _ c.before.before.before.hit-by.ensures _ c.before.before.hit-part.ensures
+    struck_restart a.network a.state a.trouble _ c.before.before.before.hit-by.ensures _ c.before.before.hit-part.ensures
     a.out.now c.enum-told2.given.1
 
 returns_3 : tie.Need-returns-3
 returns_3 c =
     let h = c.before.before.before.before in
     let a = h.before.before.before.before.before.args in
-    struck-reset a.network a.state a.trouble _ h.before.before.before.hit-by.ensures _ h.before.before.hit-part.ensures
+    struck_reset a.network a.state a.trouble _ h.before.before.before.hit-by.ensures _ h.before.before.hit-part.ensures
     h.enum-told3.given.1 c.before.before.put-reset.ensures
 
 returns_4 : tie.Need-returns-4
 returns_4 c =
     let a = c.before.before.before.before.before.args in
-    struck-not-taken a.network a.state a.trouble _ c.before.before.before.hit-by.ensures _ c.before.before.hit-part.ensures
+    struck_not_taken a.network a.state a.trouble _ c.before.before.before.hit-by.ensures _ c.before.before.hit-part.ensures
     a.out.now c.enum-told4.given.1
 
 recovery_room : tie.Need-put-recovery-requires
 recovery_room c κs =
     let h = c.before in
     let a = h.before.before.before.before.before.args in
-    room-recover a.network a.state a.trouble _ h.before.before.before.hit-by.ensures h.enum_told.given.1
+    room_recover a.network a.state a.trouble _ h.before.before.before.hit-by.ensures h.enum_told.given.1
     h.before.before.before.before.before.requires
 
 reset_room : tie.Need-put-reset-requires
 reset_room c κs =
     let h = c.before in
     let a = h.before.before.before.before.before.args in
-    room-reset a.network a.state a.trouble _ h.before.before.before.hit-by.ensures h.enum-told3.given.1
+    room_reset a.network a.state a.trouble _ h.before.before.before.hit-by.ensures h.enum-told3.given.1
     h.before.before.before.before.before.requires
 
 pub strike_spec : {M : Type 1} → statement M

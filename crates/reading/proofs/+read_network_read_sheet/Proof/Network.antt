@@ -32,7 +32,7 @@ use denote.Triple.Walked.{says, Stays, stay_dropped, walk_of, ends_at}
 use denote.Exit.{yes}
 use Rattle.fields.specs.declared.Reader.{Reader}
 use Rattle.fields.specs.Fields.{row_at, ReadAt}
-use Rattle.fields.proofs.Calls.{B, Own, token, Asked, handed, asks-last, asks-plainly, moves, cells}
+use Rattle.fields.proofs.Calls.{B, Own, token, Asked, handed, asks_last, asks_plainly, moves, cells}
 use Rattle.fields.proofs.Reader.TheLaws as Rd'
 use Rattle.fields.specs.contracts.Reader.moved_to as moved
 use Rattle.fields.proofs.Reader.moved_to.Symbol.{name as #moved}
@@ -67,7 +67,7 @@ use Rattle.sheet.specs.declared.Reading.{Reading}
 use Rattle.sheet.specs.Reading.{sheet, network, pushed, after_filling}
 use Rattle.sheet.specs.contracts.Reading as Rg
 use Rattle.sheet.proofs.Reading.TheLaws as Rg'
-use Rattle.reading.proofs.Steps.{network-by, fills_further, fills-fits}
+use Rattle.reading.proofs.Steps.{network_by, fills_further, fills_fits}
 use Rattle.reading_parts.specs.contracts.push_network as push
 use Rattle.reading_parts.proofs.push_network.Symbol.{name as #push}
 use Rattle.reading_parts.specs.contracts.refuse_entry as refuse
@@ -79,10 +79,10 @@ use Rattle.reading.specs.contracts.read_network.Key.{name as #this}
 use Rattle.reading.proofs.+read_network_read_sheet.Code as code
 use Rattle.reading.proofs.+read_network_read_sheet.Code.+read_network as body
 use Rattle.reading.proofs.+read_network_read_sheet.Proof.Values.{differ, unread, fewer, finds, refuses}
-use Rattle.reading.proofs.+read_network_read_sheet.Proof.Values.{reader-passed, reader-typed, settings-typed, network-typed}
-use Rattle.reading.proofs.+read_network_read_sheet.Proof.Values.{found-typed, reading-typed, filled-typed, filling-typed, fault-typed}
-use Rattle.reading.proofs.+read_network_read_sheet.Proof.Values.{progress-typed, settings-made, network-made, entry-made, progress-made}
-use Rattle.reading.proofs.+read_network_read_sheet.Proof.Values.{reading-made, bytes_fit, place_fits, entry_is, next_fits, filling_is, network_is}
+use Rattle.reading.proofs.+read_network_read_sheet.Proof.Values.{reader_passed, reader_typed, settings_typed, network_typed}
+use Rattle.reading.proofs.+read_network_read_sheet.Proof.Values.{found_typed, reading_typed, filled_typed, filling_typed, fault_typed}
+use Rattle.reading.proofs.+read_network_read_sheet.Proof.Values.{progress_typed, settings_made, network_made, entry_made, progress_made}
+use Rattle.reading.proofs.+read_network_read_sheet.Proof.Values.{reading_made, bytes_fit, place_fits, entry_is, next_fits, filling_is, network_is}
 use Rattle.reading.proofs.+read_network_read_sheet.Proof.Values.{progress_is, refused_is}
 
 -- at exit nothing is had of the parameters
@@ -101,7 +101,7 @@ stayed = (
 module _ {M : Type 1} {𝓤 : Ura M} (𝓛 : Logic 𝓤) (mem : Memory → SProp 𝓤) (run : Routine → Fun 𝓤) (κ : Lft)
     (q : Share)
     (d : Reader) (s : Settings) (n : Network) (g : Progress) (is-d : Is (B (κ, tt)) d (Rd'.lowered d ∷ []))
-    (is-s : Is Se.the_row s (Se'.lowered s ∷ [])) (is-n : Is Ne.the_row n (Ne'.lowered n ∷ []))
+    (is_s : Is Se.the_row s (Se'.lowered s ∷ [])) (is-n : Is Ne.the_row n (Ne'.lowered n ∷ []))
     (is-g : Is Pr.the_row g (Pr'.lowered g ∷ []))
     (room : s.count < 8) where
   open 𝓛 use {H}
@@ -121,7 +121,7 @@ module _ {M : Type 1} {𝓤 : Ura M} (𝓛 : Logic 𝓤) (mem : Memory → SProp
       (((κ, tt), (q, tt), tt, (d, (s, (n, (g, tt)))), at), tt) (Rg'.lowered r) r (tt, (tt, (tt, (tt, tt)))) (tt, (tt, (tt, (tt, tt))))) $
       says ! e $
       frame ! $ nothing ! $ nothing ! $ fjoin ! $ nothing ! $ fjoin ! $ nothing ! $ fjoin ! $ nothing ! $ fjoin ! $ frame ! $
-      owned ! Rg.the_row (Is Rg.the_row) (reading-made 𝓛) r _ is $ done !
+      owned ! Rg.the_row (Is Rg.the_row) (reading_made 𝓛) r _ is $ done !
 
   abbrev This : Contract 𝓤
   This = Asked 𝓛 this.ended (this.clauses 𝓛 mem run)
@@ -156,7 +156,7 @@ module _ {M : Type 1} {𝓤 : Ura M} (𝓛 : Logic 𝓤) (mem : Memory → SProp
             (none ∷ none ∷ none ∷ none ∷ none ∷ none ∷ none ∷ none ∷ none ∷ none ∷ none ∷ none ∷ some
             (Rg'.lowered r) ∷ none ∷ none ∷ none ∷ none ∷ none ∷ []) []) (runs C Λ E body.t-6 (at_ret E Post))
         leaves X r is e =
-            assigns ! (of_opd ! (load ! (from ! (stop !)) (look ! 12 refl))) (from ! (stop !)) (init ! 36 refl (reading-typed 𝓛 r is)) $
+            assigns ! (of_opd ! (load ! (from ! (stop !)) (look ! 12 refl))) (from ! (stop !)) (init ! 36 refl (reading_typed 𝓛 r is)) $
             returns ! (look ! 36 refl) $ forget ! 12 refl $ forget ! 36 refl $
             move ! (36 ∷ 37 ∷ 34 ∷ 35 ∷ 32 ∷ 33 ∷ 30 ∷ 31 ∷ 28 ∷ 29 ∷ 26 ∷ 27 ∷ 24 ∷ 25 ∷ 22 ∷ 23 ∷ 20 ∷ 21 ∷ 18 ∷ 19 ∷ 16 ∷ 17 ∷ 14 ∷ 15 ∷
             12 ∷ 13 ∷ 10 ∷ 11 ∷ 8 ∷ 9 ∷ 6 ∷ 7 ∷ 4 ∷ 5 ∷ 2 ∷ 3 ∷ []) $ free1 ! $ free1 ! $ free1 ! $ free1 ! $ free1 ! $ free1 ! $ free1 ! $
@@ -183,12 +183,12 @@ module _ {M : Type 1} {𝓤 : Ura M} (𝓛 : Logic 𝓤) (mem : Memory → SProp
               switches ! (load ! (from ! (vrt ! refl (fld ! refl (stop !)))) (look_tag ! 22 (whole !))) (
                 (λ _.
                     assigns ! (of_opd ! (load ! (from ! (vrt ! refl (fld ! refl (stop !))))
-                    (look_in ! 22 (in_variant ! 0 0 refl refl (whole !))))) (from ! (stop !)) (init ! 20 refl (progress-typed 𝓛 progress is-p)) $
-                    assigns ! (of_opd ! (load ! (from ! (stop !)) (look ! 34 refl))) (from ! (stop !)) (init ! 8 refl (reader-typed 𝓛 κ d is-d)) $
+                    (look_in ! 22 (in_variant ! 0 0 refl refl (whole !))))) (from ! (stop !)) (init ! 20 refl (progress_typed 𝓛 progress is-p)) $
+                    assigns ! (of_opd ! (load ! (from ! (stop !)) (look ! 34 refl))) (from ! (stop !)) (init ! 8 refl (reader_typed 𝓛 κ d is-d)) $
                     moves ! fm mem run moved-met κ q d f.next (next_fits f _ is_f)
                     (and_then ! (load ! (from ! (stop !)) (look ! 7 refl))
                     (and_then ! (load ! (from ! (fld ! refl (stop !))) (look_in ! 25 (sub ! 1 refl (whole !)))) (no_more !))) (λ d' is-d' e-d'.
-                    land ! (from ! (stop !)) (init ! 10 refl (reader-typed 𝓛 κ d' is-d')) $
+                    land ! (from ! (stop !)) (init ! 10 refl (reader_typed 𝓛 κ d' is-d')) $
                     let y : This.Ghost = (
                       (
                         (κ, tt),
@@ -199,19 +199,19 @@ module _ {M : Type 1} {𝓤 : Ura M} (𝓛 : Logic 𝓤) (mem : Memory → SProp
                       ),
                       tt,
                     ) in
-                    join ! $ asks-last ! fm this.ended (this.clauses 𝓛 mem run) y Rg'.lowers
+                    join ! $ asks_last ! fm this.ended (this.clauses 𝓛 mem run) y Rg'.lowers
                     (λ r. r ≡ network (row_at d'.bytes.now d'.place) s after progress) (λ r ws. refl) (token 𝓛 κ q ⊛ ‵ (Own κ d'))
                     (handed 𝓛 (toks 𝓛 1 (κ, tt) (q, tt)) (Own κ d') (Se.the_row ∷ Ne.the_row ∷ Pr.the_row ∷ [])
-                    (settings-made 𝓛, (network-made 𝓛, (progress-made 𝓛, tt))) y.0.3.1 y.0.4.1
-                    (is-s, (network_is m _ is_m, (is-p, tt))) (fact 𝓤 (s.count < 8)) (fact_i 𝓤 (s.count < 8) (emp 𝓤) room))
+                    (settings_made 𝓛, (network_made 𝓛, (progress_made 𝓛, tt))) y.0.3.1 y.0.4.1
+                    (is_s, (network_is m _ is_m, (is-p, tt))) (fact 𝓤 (s.count < 8)) (fact_i 𝓤 (s.count < 8) (emp 𝓤) room))
                     (this-met y (fewer d d' f.next e-d' further)) (and_then ! (load ! (from ! (stop !)) (look ! 9 refl))
                     (and_then ! (load ! (from ! (stop !)) (look ! 31 refl))
                     (and_then ! (load ! (from ! (fld ! refl (stop !))) (look_in ! 23 (sub ! 1 refl (whole !))))
                     (and_then ! (load ! (from ! (stop !)) (look ! 19 refl)) (no_more !))))) (λ r is-r e-r.
-                    land_last ! (from ! (stop !)) (init ! 12 refl (reading-typed 𝓛 r is-r)) $ forget ! 34 refl $ forget ! 32 refl $
+                    land_last ! (from ! (stop !)) (init ! 12 refl (reading_typed 𝓛 r is-r)) $ forget ! 34 refl $ forget ! 32 refl $
                     forget ! 30 refl $ forget ! 28 refl $ forget ! 26 refl $ forget ! 24 refl $ forget ! 22 refl $ forget ! 14 refl $
                     forget ! 20 refl $ forget ! 10 refl $ forget ! 8 refl $ exec ! C Λ E body.t-6 (at_ret E Post) $
-                    leaves _ r is-r ((rw (e-d'.0, e-d'.1) at e-r) ∙ sym (network-by found s n g m e))))),
+                    leaves _ r is-r ((rw (e-d'.0, e-d'.1) at e-r) ∙ sym (network_by found s n g m e))))),
                 ((λ x. absurd (differ 0 1 tt x)), ((λ x. absurd (differ 0 2 tt x)), (λ n. absurd (n.0.0.1 refl)))),
               )
           matched Whole after is_m e =
@@ -223,28 +223,28 @@ module _ {M : Type 1} {𝓤 : Ura M} (𝓛 : Logic 𝓤) (mem : Memory → SProp
                 (λ x. absurd (differ 1 0 tt x)),
                 (
                   (λ _.
-                      asks-plainly ! fm push.ended (push.clauses 𝓛 mem run) y (id⊢ 𝓤 (emp 𝓤)) (settings-made 𝓛, (network-made 𝓛, tt))
-                      (is-s, (network_is m _ is_m, tt)) (fact_i 𝓤 (s.count < 8) (emp 𝓤) room) Se'.lowers (λ more. more ≡ pushed s after)
+                      asks_plainly ! fm push.ended (push.clauses 𝓛 mem run) y (id⊢ 𝓤 (emp 𝓤)) (settings_made 𝓛, (network_made 𝓛, tt))
+                      (is_s, (network_is m _ is_m, tt)) (fact_i 𝓤 (s.count < 8) (emp 𝓤) room) Se'.lowers (λ more. more ≡ pushed s after)
                       (λ more ws. refl) (push-met y) (and_then ! (load ! (from ! (stop !)) (look ! 33 refl))
                       (and_then ! (load ! (from ! (fld ! refl (stop !))) (look_in ! 25 (sub ! 1 refl (whole !)))) (no_more !)))
                       (λ more is-more e-more.
-                      land ! (from ! (stop !)) (init ! 18 refl (settings-typed 𝓛 more is-more)) $
-                      assigns ! (of_opd ! (load ! (from ! (stop !)) (look ! 34 refl))) (from ! (stop !)) (init ! 4 refl (reader-typed 𝓛 κ d is-d)) $
+                      land ! (from ! (stop !)) (init ! 18 refl (settings_typed 𝓛 more is-more)) $
+                      assigns ! (of_opd ! (load ! (from ! (stop !)) (look ! 34 refl))) (from ! (stop !)) (init ! 4 refl (reader_typed 𝓛 κ d is-d)) $
                       moves ! fm mem run moved-met κ q d f.next (next_fits f _ is_f)
                       (and_then ! (load ! (from ! (stop !)) (look ! 3 refl))
                       (and_then ! (load ! (from ! (fld ! refl (stop !))) (look_in ! 25 (sub ! 1 refl (whole !)))) (no_more !))) (λ d' is-d' e-d'.
-                      land ! (from ! (stop !)) (init ! 6 refl (reader-typed 𝓛 κ d' is-d')) $
+                      land ! (from ! (stop !)) (init ! 6 refl (reader_typed 𝓛 κ d' is-d')) $
                       let z : Sheet.Ghost = (((κ, tt), (q, tt), tt, (d', (more, tt)), (Rd'.lowered d' ∷ [], (Se'.lowered more ∷ [], tt))), tt) in
-                      join ! $ asks-last ! fm other.ended (other.clauses 𝓛 mem run) z Rg'.lowers
+                      join ! $ asks_last ! fm other.ended (other.clauses 𝓛 mem run) z Rg'.lowers
                       (λ r. r ≡ sheet (row_at d'.bytes.now d'.place) more) (λ r ws. refl) (token 𝓛 κ q ⊛ ‵ (Own κ d'))
-                      (handed 𝓛 (toks 𝓛 1 (κ, tt) (q, tt)) (Own κ d') (Se.the_row ∷ []) (settings-made 𝓛, tt) z.0.3.1 z.0.4.1
+                      (handed 𝓛 (toks 𝓛 1 (κ, tt) (q, tt)) (Own κ d') (Se.the_row ∷ []) (settings_made 𝓛, tt) z.0.3.1 z.0.4.1
                       (is-more, tt) (emp 𝓤) (id⊢ 𝓤 (emp 𝓤))) (other-met z (fewer d d' f.next e-d' further))
                       (and_then ! (load ! (from ! (stop !)) (look ! 5 refl)) (and_then ! (load ! (from ! (stop !)) (look ! 17 refl)) (no_more !)))
                       (λ r is-r e-r.
-                      land_last ! (from ! (stop !)) (init ! 12 refl (reading-typed 𝓛 r is-r)) $ forget ! 34 refl $ forget ! 32 refl $
+                      land_last ! (from ! (stop !)) (init ! 12 refl (reading_typed 𝓛 r is-r)) $ forget ! 34 refl $ forget ! 32 refl $
                       forget ! 30 refl $ forget ! 28 refl $ forget ! 26 refl $ forget ! 24 refl $ forget ! 22 refl $ forget ! 14 refl $
                       forget ! 18 refl $ forget ! 6 refl $ forget ! 4 refl $ exec ! C Λ E body.t-6 (at_ret E Post) $
-                      leaves _ r is-r ((rw (e-d'.0, e-d'.1, e-more) at e-r) ∙ sym (network-by found s n g m e)))))),
+                      leaves _ r is-r ((rw (e-d'.0, e-d'.1, e-more) at e-r) ∙ sym (network_by found s n g m e)))))),
                   ((λ x. absurd (differ 1 2 tt x)), (λ n. absurd (n.0.1 refl))),
                 ),
               )
@@ -257,18 +257,18 @@ module _ {M : Type 1} {𝓤 : Ura M} (𝓛 : Logic 𝓤) (mem : Memory → SProp
                   (
                     (λ _.
                         assigns ! (of_opd ! (load ! (from ! (vrt ! refl (fld ! refl (stop !))))
-                        (look_in ! 22 (in_variant ! 2 0 refl refl (whole !))))) (from ! (stop !)) (init ! 16 refl (fault-typed 𝓛 fault is_x)) $
+                        (look_in ! 22 (in_variant ! 2 0 refl refl (whole !))))) (from ! (stop !)) (init ! 16 refl (fault_typed 𝓛 fault is_x)) $
                         assigns ! (of_opd ! (load ! (from ! (fld ! refl (stop !))) (look_in ! 34 (sub ! 1 refl (whole !))))) (from ! (stop !))
                         (init ! 2 refl (tt, record { fits = place_fits κ d _ is-d })) $
                         refuses ! fm mem run refuse-met fault f.entry d.place is_x (entry_is f _ is_f) (place_fits κ d _ is-d)
-                        (fills-fits found s n g m e fault refl (place_fits κ d _ is-d) (bytes_fit κ d _ is-d))
+                        (fills_fits found s n g m e fault refl (place_fits κ d _ is-d) (bytes_fit κ d _ is-d))
                         (and_then ! (load ! (from ! (stop !)) (look ! 17 refl))
                         (and_then ! (load ! (from ! (fld ! refl (stop !))) (look_in ! 27 (sub ! 0 refl (whole !))))
                         (and_then ! (load ! (from ! (stop !)) (look ! 3 refl)) (no_more !)))) (λ r is-r e-r.
-                        land_last ! (from ! (stop !)) (init ! 12 refl (reading-typed 𝓛 r is-r)) $ forget ! 34 refl $ forget ! 32 refl $
+                        land_last ! (from ! (stop !)) (init ! 12 refl (reading_typed 𝓛 r is-r)) $ forget ! 34 refl $ forget ! 32 refl $
                         forget ! 30 refl $ forget ! 28 refl $ forget ! 26 refl $ forget ! 24 refl $ forget ! 22 refl $ forget ! 14 refl $
                         forget ! 16 refl $ forget ! 2 refl $ exec ! C Λ E body.t-6 (at_ret E Post) $
-                        leaves _ r is-r (e-r ∙ sym (network-by found s n g m e)))),
+                        leaves _ r is-r (e-r ∙ sym (network_by found s n g m e)))),
                     (λ n. absurd (n.1 refl)),
                   ),
                 ),
@@ -283,12 +283,12 @@ module _ {M : Type 1} {𝓤 : Ura M} (𝓛 : Logic 𝓤) (mem : Memory → SProp
           ! (λ l₄. alloc1 ! (λ l₅. alloc1 ! (λ l₆. alloc1 ! (λ l₇. alloc1
           ! (λ l₈. alloc1 ! (λ l₉. alloc1 ! (λ l₁₀. alloc1 ! (λ l₁₁. alloc1
           ! (λ l₁₂. alloc1 ! (λ l₁₃. alloc1 ! (λ l₁₄. alloc1 ! (λ l₁₅. alloc1 ! (λ l₁₆. alloc1 ! (λ l₁₇.
-          alloc0 ! $ params1 ! $ pass1 ! (init ! 32 refl (reader-passed 𝓛 κ d is-d)) $ pass1 ! (init ! 30 refl (settings-typed 𝓛 s is-s)) $
-          pass1 ! (init ! 28 refl (network-typed 𝓛 n is-n)) $ pass1 ! (init ! 26 refl (progress-typed 𝓛 g is-g)) $ pass0 ! $
+          alloc0 ! $ params1 ! $ pass1 ! (init ! 32 refl (reader_passed 𝓛 κ d is-d)) $ pass1 ! (init ! 30 refl (settings_typed 𝓛 s is_s)) $
+          pass1 ! (init ! 28 refl (network_typed 𝓛 n is-n)) $ pass1 ! (init ! 26 refl (progress_typed 𝓛 g is-g)) $ pass0 ! $
           move ! (37 ∷ []) $ fsplit ! $ move ! (1 ∷ []) $ drop ! $ move ! (37 ∷ 0 ∷ []) $
-          assigns ! (of_opd ! (load ! (from ! (stop !)) (look ! 34 refl))) (from ! (stop !)) (init ! 14 refl (reader-typed 𝓛 κ d is-d)) $
+          assigns ! (of_opd ! (load ! (from ! (stop !)) (look ! 34 refl))) (from ! (stop !)) (init ! 14 refl (reader_typed 𝓛 κ d is-d)) $
           finds ! fm mem run next-met κ q d (and_then ! (load ! (from ! (stop !)) (look ! 14 refl)) (no_more !)) (λ f is_f found.
-          land ! (from ! (stop !)) (init ! 26 refl (found-typed 𝓛 f is_f)) $
+          land ! (from ! (stop !)) (init ! 26 refl (found_typed 𝓛 f is_f)) $
           let y : (Asked 𝓛 fill.ended (fill.clauses 𝓛 mem run)).Ghost = (
             (
               tt,
@@ -299,14 +299,14 @@ module _ {M : Type 1} {𝓤 : Ura M} (𝓛 : Logic 𝓤) (mem : Memory → SProp
             ),
             tt,
           ) in
-          asks-plainly ! fm fill.ended (fill.clauses 𝓛 mem run) y (id⊢ 𝓤 (emp 𝓤))
-          (settings-made 𝓛, (network-made 𝓛, (progress-made 𝓛, (entry-made 𝓛, tt))))
-          (is-s, (is-n, (is-g, (entry_is f _ is_f, tt)))) (id⊢ 𝓤 (emp 𝓤)) Fd'.lowers (λ m. m ≡ fills s n g f.entry) (λ m ws. refl)
+          asks_plainly ! fm fill.ended (fill.clauses 𝓛 mem run) y (id⊢ 𝓤 (emp 𝓤))
+          (settings_made 𝓛, (network_made 𝓛, (progress_made 𝓛, (entry_made 𝓛, tt))))
+          (is_s, (is-n, (is-g, (entry_is f _ is_f, tt)))) (id⊢ 𝓤 (emp 𝓤)) Fd'.lowers (λ m. m ≡ fills s n g f.entry) (λ m ws. refl)
           (fill-met y) (and_then ! (load ! (from ! (stop !)) (look ! 33 refl))
           (and_then ! (load ! (from ! (stop !)) (look ! 31 refl)) (and_then ! (load ! (from ! (stop !)) (look ! 29 refl))
           (and_then ! (load ! (from ! (fld ! refl (stop !))) (look_in ! 27 (sub ! 0 refl (whole !)))) (no_more !))))) (λ m is_m e.
-          land ! (from ! (stop !)) (init ! 24 refl (filled-typed 𝓛 m is_m)) $
+          land ! (from ! (stop !)) (init ! 24 refl (filled_typed 𝓛 m is_m)) $
           assigns ! (of_opd ! (load ! (from ! (fld ! refl (stop !))) (look_in ! 24 (sub ! 0 refl (whole !))))) (from ! (stop !))
-          (init ! 22 refl (filling-typed 𝓛 m.filling (filling_is m _ is_m))) $
+          (init ! 22 refl (filling_typed 𝓛 m.filling (filling_is m _ is_m))) $
           first ! $ matched l₀ l₁ l₂ l₃ l₄ l₅ l₆ l₇ l₈ l₉ l₁₀ l₁₁ l₁₂ l₁₃ l₁₄ l₁₅ l₁₆ l₁₇ f is_f found m.filling
           m.network is_m e))))))))))))))))))))

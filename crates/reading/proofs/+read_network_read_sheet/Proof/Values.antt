@@ -1,7 +1,7 @@
 -- What the walks of `read_sheet` and `read_network` have in common.
 --     B, Own, token (of `fields`)  the reader's type, what a reader owns, and the token of its lifetime
---     settings-typed, …            a value of a type is of its MIR type, at the machine value that lowering gives it
---     settings-made, …             what a plain type owns is had for nothing
+--     settings_typed, …            a value of a type is of its MIR type, at the machine value that lowering gives it
+--     settings_made, …             what a plain type owns is had for nothing
 --     entry_is, …                  the parts of a value
 --     finds, refuses               two calls that both functions have, as one step each
 use Rattle.lists.proofs.Basics.{◌≡◌, refl, ℕ, ◌-◌, ◌≤◌, ◌<◌, ◌^◌, List, [], ◌∷◌, length, subst, not, eqb, arith}
@@ -31,7 +31,7 @@ use denote.Enum.Laws as EL
 use denote.Triple.Statement.{Triple}
 use Rattle.fields.specs.declared.Reader.{Reader}
 use Rattle.fields.specs.Fields.{ReadAt}
-use Rattle.fields.proofs.Calls.{B, Own, token, Moved, Asked, handed, asks, asks-plainly-last}
+use Rattle.fields.proofs.Calls.{B, Own, token, Moved, Asked, handed, asks, asks_plainly_last}
 use Rattle.fields.specs.contracts.Reader as Rd
 use Rattle.fields.proofs.Reader.TheLaws as Rd'
 use Rattle.settings.specs.declared.Settings.{Settings}
@@ -91,60 +91,60 @@ abbrev Typed : Ty → Val → Type 0
 Typed τ v = Holds (has_ty τ v) × WT v
 
 module _ {M : Type 1} {𝓤 : Ura M} (𝓛 : Logic 𝓤) where
-  pub reader-passed : (κ : Lft) (d : Reader) → Is (B (κ, tt)) d (Rd'.lowered d ∷ []) → Typed (Rd'.mir (named 0)) (Rd'.lowered d)
-  reader-passed κ d is = ((LL.lawful (Rd.the_type (named_lft 1 0 tt (κ, tt))) (Rd'.the_laws (named_lft 1 0 tt (κ, tt))) 𝓛).typed d _ is).0
+  pub reader_passed : (κ : Lft) (d : Reader) → Is (B (κ, tt)) d (Rd'.lowered d ∷ []) → Typed (Rd'.mir (named 0)) (Rd'.lowered d)
+  reader_passed κ d is = ((LL.lawful (Rd.the_type (named_lft 1 0 tt (κ, tt))) (Rd'.the_laws (named_lft 1 0 tt (κ, tt))) 𝓛).typed d _ is).0
 
   -- in a local of a body MIR erases the lifetime
-  pub reader-typed : (κ : Lft) (d : Reader) → Is (B (κ, tt)) d (Rd'.lowered d ∷ []) → Typed (Rd'.mir erased) (Rd'.lowered d)
-  reader-typed κ d is =
+  pub reader_typed : (κ : Lft) (d : Reader) → Is (B (κ, tt)) d (Rd'.lowered d ∷ []) → Typed (Rd'.mir erased) (Rd'.lowered d)
+  reader_typed κ d is =
       let α : NamedLft = record { mir = erased; lft = κ } in
       ((LL.lawful (Rd.the_type α) (Rd'.the_laws α) 𝓛).typed d _ is).0
 
-  pub settings-typed : (x : Settings) → Is Se.the_row x (Se'.lowered x ∷ []) → Typed Se'.mir (Se'.lowered x)
-  settings-typed x is = ((LL.lawful Se.the_type Se'.the_laws 𝓛).typed x _ is).0
+  pub settings_typed : (x : Settings) → Is Se.the_row x (Se'.lowered x ∷ []) → Typed Se'.mir (Se'.lowered x)
+  settings_typed x is = ((LL.lawful Se.the_type Se'.the_laws 𝓛).typed x _ is).0
 
-  pub network-typed : (x : Network) → Is Ne.the_row x (Ne'.lowered x ∷ []) → Typed Ne'.mir (Ne'.lowered x)
-  network-typed x is = ((LL.lawful Ne.the_type Ne'.the_laws 𝓛).typed x _ is).0
+  pub network_typed : (x : Network) → Is Ne.the_row x (Ne'.lowered x ∷ []) → Typed Ne'.mir (Ne'.lowered x)
+  network_typed x is = ((LL.lawful Ne.the_type Ne'.the_laws 𝓛).typed x _ is).0
 
-  pub found-typed : (x : FoundEntry) → Is Fe.the_row x (Fe'.lowered x ∷ []) → Typed Fe'.mir (Fe'.lowered x)
-  found-typed x is = ((LL.lawful Fe.the_type Fe'.the_laws 𝓛).typed x _ is).0
+  pub found_typed : (x : FoundEntry) → Is Fe.the_row x (Fe'.lowered x ∷ []) → Typed Fe'.mir (Fe'.lowered x)
+  found_typed x is = ((LL.lawful Fe.the_type Fe'.the_laws 𝓛).typed x _ is).0
 
-  pub filled-typed : (x : Filled) → Is Fd.the_row x (Fd'.lowered x ∷ []) → Typed Fd'.mir (Fd'.lowered x)
-  filled-typed x is = ((LL.lawful Fd.the_type Fd'.the_laws 𝓛).typed x _ is).0
+  pub filled_typed : (x : Filled) → Is Fd.the_row x (Fd'.lowered x ∷ []) → Typed Fd'.mir (Fd'.lowered x)
+  filled_typed x is = ((LL.lawful Fd.the_type Fd'.the_laws 𝓛).typed x _ is).0
 
-  pub reading-typed : (x : Reading) → Is Rg.the_row x (Rg'.lowered x ∷ []) → Typed Rg'.mir (Rg'.lowered x)
-  reading-typed x is = ((LL.lawful Rg.the_type Rg'.the_laws 𝓛).typed x _ is).0
+  pub reading_typed : (x : Reading) → Is Rg.the_row x (Rg'.lowered x ∷ []) → Typed Rg'.mir (Rg'.lowered x)
+  reading_typed x is = ((LL.lawful Rg.the_type Rg'.the_laws 𝓛).typed x _ is).0
 
-  pub opening-typed : (x : Opening) → Is Op.the_row x (Op'.lowered x ∷ []) → Typed Op'.mir (Op'.lowered x)
-  opening-typed x is = ((EL.lawful Op.the_type Op'.the_laws 𝓛 tt).typed x _ is).0
+  pub opening_typed : (x : Opening) → Is Op.the_row x (Op'.lowered x ∷ []) → Typed Op'.mir (Op'.lowered x)
+  opening_typed x is = ((EL.lawful Op.the_type Op'.the_laws 𝓛 tt).typed x _ is).0
 
-  pub filling-typed : (x : Filling) → Is Fi.the_row x (Fi'.lowered x ∷ []) → Typed Fi'.mir (Fi'.lowered x)
-  filling-typed x is = ((EL.lawful Fi.the_type Fi'.the_laws 𝓛 tt).typed x _ is).0
+  pub filling_typed : (x : Filling) → Is Fi.the_row x (Fi'.lowered x ∷ []) → Typed Fi'.mir (Fi'.lowered x)
+  filling_typed x is = ((EL.lawful Fi.the_type Fi'.the_laws 𝓛 tt).typed x _ is).0
 
-  pub fault-typed : (x : Fault) → Is Fa.the_row x (Fa'.lowered x ∷ []) → Typed Fa'.mir (Fa'.lowered x)
-  fault-typed x is = ((EL.lawful Fa.the_type Fa'.the_laws 𝓛 tt).typed x _ is).0
+  pub fault_typed : (x : Fault) → Is Fa.the_row x (Fa'.lowered x ∷ []) → Typed Fa'.mir (Fa'.lowered x)
+  fault_typed x is = ((EL.lawful Fa.the_type Fa'.the_laws 𝓛 tt).typed x _ is).0
 
-  pub progress-typed : (x : Progress) → Is Pr.the_row x (Pr'.lowered x ∷ []) → Typed Pr'.mir (Pr'.lowered x)
-  progress-typed x is = ((EL.lawful Pr.the_type Pr'.the_laws 𝓛 tt).typed x _ is).0
+  pub progress_typed : (x : Progress) → Is Pr.the_row x (Pr'.lowered x ∷ []) → Typed Pr'.mir (Pr'.lowered x)
+  progress_typed x is = ((EL.lawful Pr.the_type Pr'.the_laws 𝓛 tt).typed x _ is).0
 
 module _ {M : Type 1} {𝓤 : Ura M} (𝓛 : Logic 𝓤) where
-  pub settings-made : Makes 𝓛 Se.the_row (Is Se.the_row)
-  settings-made = LL.makes Se.the_type Se'.the_plain 𝓛
+  pub settings_made : Makes 𝓛 Se.the_row (Is Se.the_row)
+  settings_made = LL.makes Se.the_type Se'.the_plain 𝓛
 
-  pub network-made : Makes 𝓛 Ne.the_row (Is Ne.the_row)
-  network-made = LL.makes Ne.the_type Ne'.the_plain 𝓛
+  pub network_made : Makes 𝓛 Ne.the_row (Is Ne.the_row)
+  network_made = LL.makes Ne.the_type Ne'.the_plain 𝓛
 
-  pub reading-made : Makes 𝓛 Rg.the_row (Is Rg.the_row)
-  reading-made = LL.makes Rg.the_type Rg'.the_plain 𝓛
+  pub reading_made : Makes 𝓛 Rg.the_row (Is Rg.the_row)
+  reading_made = LL.makes Rg.the_type Rg'.the_plain 𝓛
 
-  pub entry-made : Makes 𝓛 En.the_row (Is En.the_row)
-  entry-made = EL.makes En.the_type En'.the_plain 𝓛
+  pub entry_made : Makes 𝓛 En.the_row (Is En.the_row)
+  entry_made = EL.makes En.the_type En'.the_plain 𝓛
 
-  pub fault-made : Makes 𝓛 Fa.the_row (Is Fa.the_row)
-  fault-made = EL.makes Fa.the_type Fa'.the_plain 𝓛
+  pub fault_made : Makes 𝓛 Fa.the_row (Is Fa.the_row)
+  fault_made = EL.makes Fa.the_type Fa'.the_plain 𝓛
 
-  pub progress-made : Makes 𝓛 Pr.the_row (Is Pr.the_row)
-  progress-made = EL.makes Pr.the_type Pr'.the_plain 𝓛
+  pub progress_made : Makes 𝓛 Pr.the_row (Is Pr.the_row)
+  progress_made = EL.makes Pr.the_type Pr'.the_plain 𝓛
 
 -- a value at the machine value that lowering gives it
 at_low : {R : RattleType} (L : Lowered R) (x : R.Denot) (vs : List Val) → Is R x vs → Is R x (L.lowered x ∷ [])
@@ -217,7 +217,7 @@ module _ {M : Type 1} {𝓤 : Ura M} {𝓛 : Logic 𝓤} {K : Type 0} {Γ : List
   refuses t fm mem run met fault entry place is-fault is-entry fits pointed os k =
       let y : (Asked 𝓛 refuse.ended (refuse.clauses 𝓛 mem run)).Ghost =
       ((tt, tt, tt, (fault, (entry, (place, tt))), (Fa'.lowered fault ∷ [], (En'.lowered entry ∷ [], (vint w64 place ∷ [], tt)))), tt) in
-      asks-plainly-last t fm refuse.ended (refuse.clauses 𝓛 mem run) y (id⊢ 𝓤 (emp 𝓤))
-      (fault-made 𝓛, (entry-made 𝓛, (uint_Makes 𝓛 w64, tt))) (is-fault, (is-entry, ((refl, fits), tt)))
+      asks_plainly_last t fm refuse.ended (refuse.clauses 𝓛 mem run) y (id⊢ 𝓤 (emp 𝓤))
+      (fault_made 𝓛, (entry_made 𝓛, (uint_Makes 𝓛 w64, tt))) (is-fault, (is-entry, ((refl, fits), tt)))
       (fact_i 𝓤 (place_of fault entry place < 2 ^ 64) (emp 𝓤) pointed)
       Rg'.lowers (λ r. r ≡ refused_at fault (place_of fault entry place)) (λ r ws. refl) (met y) os k

@@ -2,7 +2,7 @@
 use Rattle.lists.proofs.Basics.{◌*◌, ◌-◌, ◌≤◌, ◌<◌, min, arith, ◌≡◌, length, take, needs}
 use Rattle.lists.proofs.Parts.{unmapped}
 use Rattle.slots.specs.Manager.{share_in, summed}
-use Rattle.slots.proofs.Shares.{summed-none, summed-more, needs_end}
+use Rattle.slots.proofs.Shares.{summed_none, summed_more, needs_end}
 use Rattle.slots.proofs.room.needs_of.Statement.{statement}
 use Rattle.slots.proofs.room.needs_of.Tie as tie
 
@@ -18,7 +18,7 @@ loop_again c =
     let l = c.before.before.before.loop in
     let eight : length m.networks ≡ 8 = search (unmapped, needs) in
     let h : l.i < length m.networks = omega arith in
-    (omega arith, summed-more _ _ _ _ h _ _ l.invariant.1 c.share-of.ensures.0, omega (arith, l.invariant.2, c.share-of.ensures.1))
+    (omega arith, summed_more _ _ _ _ h _ _ l.invariant.1 c.share-of.ensures.0, omega (arith, l.invariant.2, c.share-of.ensures.1))
 
 returns : tie.Need-returns invariant_loop decreases_loop
 returns c =
@@ -29,6 +29,6 @@ returns c =
     needs_end c.before.before.before.before.args.share m l.i l.total e l.invariant.1
 
 pub needs_of_spec : {M : Type 1} → statement M
-needs_of_spec = tie.close (tie.spec invariant_loop decreases_loop (λ c κs. search needs) (λ c. (omega arith, summed-none _, omega arith))
+needs_of_spec = tie.close (tie.spec invariant_loop decreases_loop (λ c κs. search needs) (λ c. (omega arith, summed_none _, omega arith))
     (λ c. search needs) (λ c. search needs) (λ c. search needs) (λ c κs. search needs) (λ c. search needs) (λ c. search needs)
     (λ c. search needs) loop_again (λ c. search needs) returns)

@@ -1,7 +1,7 @@
 -- `trace::lines::first_line` meets its contract.
 use Rattle.lists.proofs.Basics.{sym, length-take-le, needs}
 use Rattle.trace.proofs.Splits.{events_within}
-use Rattle.trace.proofs.Telling.{first-accepted, first-refused}
+use Rattle.trace.proofs.Telling.{first_accepted, first_refused}
 use Rattle.trace.proofs.lines.first_line.Statement.{statement}
 use Rattle.trace.proofs.lines.first_line.Tie as tie
 
@@ -14,14 +14,14 @@ returns : tie.Need-returns
 returns c =
     let tested = c.before.before.before.before in let b = tested.before.before in let p = b.before.before in
     let r = p.before.before.before in let input = r.before.before.before.before.args.input.now in
-    first-accepted input r.before.events-from.ensures r.new.ensures p.before.read.ensures
+    first_accepted input r.before.events-from.ensures r.new.ensures p.before.read.ensures
     p.number.ensures b.start.ensures tested.if1.true c.before.before.put-config.ensures
 
 returns_2 : tie.Need-returns-2
 returns_2 c =
     let tested = c.before.before.before.before in let b = tested.before.before in let p = b.before.before in
     let r = p.before.before.before in let input = r.before.before.before.before.args.input.now in
-    first-refused input r.before.events-from.ensures r.new.ensures p.before.read.ensures
+    first_refused input r.before.events-from.ensures r.new.ensures p.before.read.ensures
     p.number.ensures b.start.ensures tested.if1.false c.before.before.put-config2.ensures
 
 pub first_line_spec : {M : Type 1} → statement M

@@ -1,6 +1,6 @@
 -- `trace::lines::put_said` meets its contract.
 use Rattle.lists.proofs.Basics.{arith, needs}
-use Rattle.lists.proofs.Stores.{stored-then}
+use Rattle.lists.proofs.Stores.{stored_then}
 use Rattle.trace.specs.Lines.{said_of}
 use Rattle.trace.proofs.lines.put_said.Statement.{statement}
 use Rattle.trace.proofs.lines.put_said.Tie as tie
@@ -11,7 +11,7 @@ returns c =
     let b = c.before.before.before.before.before.before in
     let blank = b.put_byte.ensures in
     let mode = c.before.before.put_small.ensures in
-    (rw b.before.before.if1.true (stored-then blank mode.0), omega (arith, blank.place, mode.1))
+    (rw b.before.before.if1.true (stored_then blank mode.0), omega (arith, blank.place, mode.1))
 
 returns_2 : tie.Need-returns-2
 unfolding said_of

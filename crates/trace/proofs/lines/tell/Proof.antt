@@ -1,6 +1,6 @@
 -- `trace::lines::tell` meets its contract.
 use Rattle.lists.proofs.Basics.{arith, needs, ap}
-use Rattle.lists.proofs.Stores.{stored-length}
+use Rattle.lists.proofs.Stores.{stored_length}
 use Rattle.slots.specs.declared.Outcome.{Outcome}
 use Rattle.trace.specs.declared.Item.{Item}
 use Rattle.trace.proofs.Telling.{event_fits, event_stored, tells_item}
@@ -12,7 +12,7 @@ put_said_requires c κs =
     let answered = c.before.before.before.before.before in let ran = answered.before.before.before in let s = ran.before.before.before in
     let fits = event_fits s.args.point.manager s.args.event ran.run-event.result ran.run-event.ensures in
     let answer = answered.put-answer.ensures in
-    (fits, omega (arith, answer.1, stored-length answer.0, s.requires.1))
+    (fits, omega (arith, answer.1, stored_length answer.0, s.requires.1))
 
 returns : tie.Need-returns
 returns c =

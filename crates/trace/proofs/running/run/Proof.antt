@@ -1,8 +1,8 @@
 -- `trace::running::run` meets its contract: what stands in the block waits to be written, and after it come the lines that are left.
 use Rattle.lists.proofs.Basics.{◌-◌, arith, sym, ap, ◌∙◌, length, take, needs}
-use Rattle.lists.proofs.Stores.{stored-length}
+use Rattle.lists.proofs.Stores.{stored_length}
 use Rattle.trace.specs.declared.Point.{Point}
-use Rattle.trace.proofs.Blocks.{Waits, long_output, first_waits, filled_next, filled-size, filled-fits, all-written, waits_on, waits-again}
+use Rattle.trace.proofs.Blocks.{Waits, long_output, first_waits, filled_next, filled_size, filled_fits, all_written, waits_on, waits_again}
 use Rattle.trace.proofs.running.run.Statement.{statement}
 use Rattle.trace.proofs.running.run.Tie as tie
 
@@ -30,12 +30,12 @@ loop_holds c =
 put_next_requires_2 : tie.Need-put-next-requires-2 invariant_loop decreases_loop
 put_next_requires_2 c κs =
     let head = c.before.before.before.before.before in let f = c.before.before.before.fill.ensures in
-    (filled_next head.loop.invariant f, filled-fits head.loop.invariant f head.before.before.before.before.before.if1.false)
+    (filled_next head.loop.invariant f, filled_fits head.loop.invariant f head.before.before.before.before.before.if1.false)
 
 returns_2 : tie.Need-returns-2 invariant_loop decreases_loop
 returns_2 c =
     let filled = c.before.before.before.before.before.before in
-    all-written filled.before.before.loop.invariant filled.fill.ensures c.before.before.put-next2.ensures c.if2.true
+    all_written filled.before.before.loop.invariant filled.fill.ensures c.before.before.put-next2.ensures c.if2.true
 
 loop_less : tie.Need-loop-smaller invariant_loop decreases_loop
 loop_less c =
@@ -46,12 +46,12 @@ loop_less c =
 loop_again : tie.Need-loop-preserved invariant_loop decreases_loop
 loop_again c =
     let put = c.before.before.before in let filled = put.before.before.before.before in
-    waits-again filled.before.before.loop.invariant filled.fill.ensures put.put-next2.ensures c.emptied.ensures c.before.if2.false
+    waits_again filled.before.before.loop.invariant filled.fill.ensures put.put-next2.ensures c.emptied.ensures c.before.if2.false
 
 pub run_spec : {M : Type 1} → statement M
 run_spec = tie.close (tie.spec invariant_loop decreases_loop (λ c. search needs) put_next_requires returns (λ c κs. search needs) (λ c. search needs)
     (λ c κs. omega (arith, c.before.large-buffer.ensures)) loop_holds (λ c. c.before.loop.invariant.size)
     (λ c κs. let w = c.before.loop.invariant in (w.number, omega (arith, w.room, w.size)))
-    (λ c. let f = c.before.before.fill.ensures in omega (arith, f.within, stored-length f.stored))
-    (λ c. let filled = c.before.before.before in filled-size filled.before.before.loop.invariant filled.fill.ensures)
+    (λ c. let f = c.before.before.fill.ensures in omega (arith, f.within, stored_length f.stored))
+    (λ c. let filled = c.before.before.before in filled_size filled.before.before.loop.invariant filled.fill.ensures)
     put_next_requires_2 returns_2 (λ c κs. search needs) loop_less loop_again)
