@@ -1,7 +1,8 @@
 #!/usr/bin/env python3
 """Brings the names of definitions, lemmas, fields and constructors to one spelling: words in snake case, types in camel case.
 
-usage: tools/respell.py [--list]      at the top of the repository, once; --list only prints old and new name
+usage: tools/respell.py [--list|--again]      at the top of the repository, once; --list only prints old and new name. With --again, after a
+first run, only names that are still in the old spelling change
 
 It renames what the .antt files of this repository define and no library does: camelCase and dashes become snake_case, a type keeps its capitals.
 Code of src/ keeps its names; in .rt files only clauses and imports of ghost names change.
@@ -124,7 +125,7 @@ def main():
         return
     for f in FILES:
         old = open(f, encoding="utf-8").read()
-        now = respell(lemmas_give_way(old), new)
+        now = respell(lemmas_give_way(old) if "--again" not in sys.argv else old, new)
         if now != old:
             open(f, "w", encoding="utf-8").write(now)
     for f in sorted(glob.glob("crates/*/src/**/*.rt", recursive=True)):

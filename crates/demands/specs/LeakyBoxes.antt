@@ -195,14 +195,14 @@ found_by_number m c (to id sight) = slot_outcome m 0 sight
 found_by_number m c to_all = outcome m c
 found_by_number m c to_nobody = outcome m c
 
-abbrev by_number_lem : Manager → Call → Outcome
-by_number_lem m c = found_by_number m c (address_of 0 c)
+abbrev by_number : Manager → Call → Outcome
+by_number m c = found_by_number m c (address_of 0 c)
 
 abbrev confusing : Box
 confusing =
     record {
-      after = λ m c. (by_number_lem m c).manager;
-      adds = λ m c. record { call = c; number = answer_number (by_number_lem m c).answer; mode = (by_number_lem m c).mode; records = handed_out m c };
+      after = λ m c. (by_number m c).manager;
+      adds = λ m c. record { call = c; number = answer_number (by_number m c).answer; mode = (by_number m c).mode; records = handed_out m c };
     }
 
 -- both go down; then full is wanted of network 3, and network 7 comes up

@@ -148,13 +148,13 @@ row_further s at tag n next e =
     )
 
 -- the row at a place, by the field that stands there
-abbrev pub row_from_lem : List ℕ → ℕ → Field → Row
-row_from_lem s at End = stop at
-row_from_lem s at (Stub tag) = stub at tag
-row_from_lem s at (Overrun tag n) = overrun at tag n
-row_from_lem s at (Whole tag n next) = field at tag (take n (drop (at + 3) s)) (row_at s next)
+abbrev pub row_from : List ℕ → ℕ → Field → Row
+row_from s at End = stop at
+row_from s at (Stub tag) = stub at tag
+row_from s at (Overrun tag n) = overrun at tag n
+row_from s at (Whole tag n next) = field at tag (take n (drop (at + 3) s)) (row_at s next)
 
-pub row_from_lem : (s : List ℕ) (at : ℕ) (f : Field) → front at (drop at s) ≡ f → row_at s at ≡ row_from_lem s at f
+pub row_from_lem : (s : List ℕ) (at : ℕ) (f : Field) → front at (drop at s) ≡ f → row_at s at ≡ row_from s at f
 row_from_lem s at End e = row_end at (drop at s) e
 row_from_lem s at (Stub tag) e = row_stub at (drop at s) tag e
 row_from_lem s at (Overrun tag n) e = row_overrun at (drop at s) tag n e
@@ -162,7 +162,7 @@ row_from_lem s at (Whole tag n next) e = (row_further s at tag n next e).0
 
 -- a reader of one field, by what it gives for the field that stands there
 pub read_at : {A : Type 0} {make : Row → A} {s : List ℕ} {at : ℕ} {made : A} {next : ℕ} (f : Field) → front at (drop at s) ≡ f →
-    made ≡ make (row_from_lem s at f) → next ≡ next_of f at → ReadAt make s at made next
+    made ≡ make (row_from s at f) → next ≡ next_of f at → ReadAt make s at made next
 read_at {A} {make} {s} {at} f e p q = record { what = p ∙ ap make (sym (row_from_lem s at f e)); where_next = rw e q }
 
 -- ---- the row of a field that was written

@@ -14,7 +14,7 @@ use Rattle.steps.specs.declared.Ask.{Ask}
 use Rattle.steps.specs.declared.Move.{Move}
 use Rattle.steps.specs.declared.Move.TheVariants.{Stay, AskAgain, Count, EnterFull, EnterSilent, Pass, Wait, GoDown, EnterNoCommunication, Enter}
 use Rattle.steps.specs.Steps.{asks_for, is_online_step}
-use Rattle.steps.specs.Decision.{by_mode_lem}
+use Rattle.steps.specs.Decision.{by_mode}
 use Rattle.steps.specs.After.{first_down}
 use Rattle.handing.specs.declared.Round.{Round}
 use Rattle.handing.specs.declared.Errand.{Errand}
@@ -56,7 +56,7 @@ entering_silent n = entering n PduMode.TxOffline Mode.Silent Notice.Silent
 
 -- T25, E16: the mode manager hears no, and where full was told the communication manager hears silent, before any controller is stopped
 unfoldable pub down_notices : ℕ → Mode → List Record
-down_notices handle told = notes handle Notice.No ∷ by_mode_lem told [] [] (tells handle Mode.Silent ∷ [])
+down_notices handle told = notes handle Notice.No ∷ by_mode told [] [] (tells handle Mode.Silent ∷ [])
 
 -- T25: these notices, then the requests of the first down step, which is 9 with partial networking and else 10
 unfoldable pub going_down : Network → Mode → List Record

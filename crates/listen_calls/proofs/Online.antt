@@ -19,7 +19,7 @@ use Rattle.slots.specs.declared.Outcome.{Outcome}
 use Rattle.slots.specs.declared.Answer.{Answer}
 use Rattle.slots.specs.Manager.{networks_of, with_listening, refused, accepted, gathered, controller_count, listen_needs}
 use Rattle.slots.specs.declared.Gate.{Gate}
-use Rattle.slots.specs.Calls.{Call, by_gate, gate_records, changes, all_online, online_anew, listened, by_value_lem, outcome, by_rules, buffer_with, Gives}
+use Rattle.slots.specs.Calls.{Call, by_gate, gate_records, changes, all_online, online_anew, listened, by_value, outcome, by_rules, buffer_with, Gives}
 use Rattle.lent_calls.proofs.Gathered.{gathered_summed}
 use Rattle.lent_calls.proofs.Ticks.{wrote_front, heeded_with, gate_open}
 
@@ -80,16 +80,16 @@ listened_same m listening b r x p f e =
 -- ---- the value
 -- a value above 1 is refused
 pub value_refused : (m : Manager) (value : ℕ) (b : List ℕ) (r : Outcome) → 1 < value → r ≡ refused m Answer.OutOfRange
-    → (r ≡ by_value_lem value (refused m Answer.OutOfRange) (listened m))
-    × (b ≡ buffer_with b (map (turned r.manager.listening) (by_value_lem value [] (online_anew m))))
+    → (r ≡ by_value value (refused m Answer.OutOfRange) (listened m))
+    × (b ≡ buffer_with b (map (turned r.manager.listening) (by_value value [] (online_anew m))))
 unfolding buffer_with bytes
 value_refused m value b r l e = (rw (lt-ltb 1 value l) e, rw (lt-ltb 1 value l) refl)
 
 -- any other sets it or clears it
 pub value_taken : (m : Manager) (value : ℕ) (b after : List ℕ) (r : Outcome) → value ≤ 1
     → (r ≡ listened m (eqb 1 value)) × (after ≡ buffer_with b (map (turned (eqb 1 value)) (online_anew m (eqb 1 value))))
-    → (r ≡ by_value_lem value (refused m Answer.OutOfRange) (listened m))
-    × (after ≡ buffer_with b (map (turned r.manager.listening) (by_value_lem value [] (online_anew m))))
+    → (r ≡ by_value value (refused m Answer.OutOfRange) (listened m))
+    × (after ≡ buffer_with b (map (turned r.manager.listening) (by_value value [] (online_anew m))))
 unfolding listened
 value_taken m value b after r l p =
     let low = le-ltb 1 value l in

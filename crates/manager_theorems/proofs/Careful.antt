@@ -13,7 +13,7 @@ use Rattle.slots.specs.declared.Answer.{Answer}
 use Rattle.slots.specs.declared.Manager.{Manager}
 use Rattle.slots.specs.declared.Outcome.{Outcome}
 use Rattle.slots.specs.Manager.{answer_number, settings_of, blank_state, refused}
-use Rattle.slots.specs.Calls.{Call, listen, by_stage, slot_of, writing_of, gate_of, by_gate, all_ticked, listened, by_value_lem, outcome, by_rules, handed_out}
+use Rattle.slots.specs.Calls.{Call, listen, by_stage, slot_of, writing_of, gate_of, by_gate, all_ticked, listened, by_value, outcome, by_rules, handed_out}
 use Rattle.slots.specs.Calls.{buffer_with, written_into, Gives, Writes}
 use Rattle.calls.specs.Histories.{is_accepted, entry_of, to, address_of}
 use Rattle.calls.proofs.ByCall.{ByCall, by_call}
@@ -109,6 +109,6 @@ module _ (m : Manager) where
       by_value_lem true = record { stage = refl; settings = refl; states = refl }
       by_value_lem false = record { stage = refl; settings = refl; states = refl }
 
-      by_gate_lem : (gate : Gate) → OnlyListens m (by_gate m gate (by_value_lem value (refused m Answer.OutOfRange) (listened m)))
+      by_gate_lem : (gate : Gate) → OnlyListens m (by_gate m gate (by_value value (refused m Answer.OutOfRange) (listened m)))
       by_gate_lem (Gate.Refused answer) = record { stage = refl; settings = refl; states = refl }
       by_gate_lem Gate.Open = by_value_lem (ltb 1 value)

@@ -5,7 +5,7 @@ use Rattle.records.specs.declared.Mode.{Mode}
 use Rattle.settings.specs.declared.Network.{Network}
 use Rattle.steps.specs.declared.Move.{Move}
 use Rattle.steps.specs.declared.Move.TheVariants.{Stay, AskAgain, Count, EnterFull, EnterSilent, Pass, Wait, GoDown, EnterNoCommunication, Enter}
-use Rattle.steps.specs.After.{step_after_lem}
+use Rattle.steps.specs.After.{step_after}
 use Rattle.handing.specs.Handing.{move_records}
 use Rattle.network.specs.declared.State.{State}
 use Rattle.network.specs.State.{blank_answers}
@@ -73,7 +73,7 @@ keeps_answers (Enter next) = false
 unfoldable pub after_move : Network → State → Move → State
 after_move n s m =
     record {
-      step = step_after_lem m s.step n.partial;
+      step = step_after m s.step n.partial;
       wanted = s.wanted;
       told = told_after m s.told;
       count = count_after m s.count;

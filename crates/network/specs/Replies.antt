@@ -5,7 +5,7 @@ use Rattle.records.specs.declared.Mode.{Mode}
 use Rattle.steps.specs.declared.Step.{Step}
 use Rattle.steps.specs.declared.Phase.{Phase}
 use Rattle.steps.specs.Steps.{phase_of}
-use Rattle.steps.specs.Decision.{by_mode_lem}
+use Rattle.steps.specs.Decision.{by_mode}
 use Rattle.network.specs.declared.Refusal.{Refusal}
 use Rattle.network.specs.declared.Reply.{Reply}
 
@@ -41,4 +41,4 @@ silent_reply Phase.Resetting = Reply.Taken
 
 -- N15: no and full are taken in every step, also during a recovery
 abbrev pub request_reply : Step → Mode → Reply
-request_reply step mode = by_mode_lem mode Reply.Taken (silent_reply (phase_of step)) Reply.Taken
+request_reply step mode = by_mode mode Reply.Taken (silent_reply (phase_of step)) Reply.Taken

@@ -5,16 +5,16 @@ use Rattle.records.specs.declared.Mode.{Mode}
 use Rattle.steps.specs.declared.Step.{Step}
 use Rattle.steps.specs.declared.Phase.{Phase}
 use Rattle.steps.specs.Steps.{phase_of}
-use Rattle.steps.specs.Decision.{by_mode_lem}
+use Rattle.steps.specs.Decision.{by_mode}
 
 -- the phases that last where what is wanted is there: no communication, full or silent
 abbrev pub rests_in_phase : Phase → Mode → Bool
-rests_in_phase Phase.Off wanted = by_mode_lem wanted true false false
+rests_in_phase Phase.Off wanted = by_mode wanted true false false
 rests_in_phase Phase.Rising wanted = false
 rests_in_phase Phase.Checking wanted = false
-rests_in_phase Phase.Full wanted = by_mode_lem wanted false false true
+rests_in_phase Phase.Full wanted = by_mode wanted false false true
 rests_in_phase Phase.Recovering wanted = false
-rests_in_phase Phase.Silent wanted = by_mode_lem wanted false true false
+rests_in_phase Phase.Silent wanted = by_mode wanted false true false
 rests_in_phase Phase.Falling wanted = false
 rests_in_phase Phase.Resetting wanted = false
 

@@ -18,7 +18,7 @@ use Rattle.steps.specs.declared.Outfit.TheVariants.{Bare, Fitted, Partial}
 use Rattle.steps.specs.declared.Move.{Move}
 use Rattle.steps.specs.declared.Move.TheVariants.{Stay, AskAgain, Count, EnterFull, EnterSilent, Pass, Wait, GoDown, EnterNoCommunication, Enter}
 use Rattle.steps.specs.Steps.{phase_of, asks_for, on_phase, up_phase, full_phase, is_on, is_up, is_full_step, is_asking, asks_to_start}
-use Rattle.steps.specs.Decision.{by_partial_lem, by_transceiver, when_done, risen, is_no, goes_down_lem, decision}
+use Rattle.steps.specs.Decision.{by_partial, by_transceiver, when_done, risen, is_no, goes_down, decision}
 use Rattle.steps.specs.After.{first_down}
 use Rattle.network.specs.declared.State.{State}
 use Rattle.network.specs.State.{heard_of}
@@ -31,8 +31,8 @@ abbrev pub suits_ask : Outfit → Ask → Bool
 suits_ask outfit Ask.Nothing = true
 suits_ask outfit (Ask.Controllers mode) = true
 suits_ask outfit (Ask.Transceiver mode) = by_transceiver outfit false true
-suits_ask outfit Ask.ClearWake = by_partial_lem outfit false true
-suits_ask outfit Ask.CheckWake = by_partial_lem outfit false true
+suits_ask outfit Ask.ClearWake = by_partial outfit false true
+suits_ask outfit Ask.CheckWake = by_partial outfit false true
 
 -- a step that a network with this outfit can be in
 abbrev pub suits : Outfit → Step → Bool
@@ -129,7 +129,7 @@ pub record ByArrow (done reached : Bool) (outfit : Outfit) (P : Step → Mode �
   pub begins : done ≡ true → P ControllersStopped Mode.Full (Enter ControllersStarted)
   pub starts : done ≡ true → P ControllersStarted Mode.Full EnterFull
   -- any asking step that is not done
-  pub asks_again : (step : Step) (wanted : Mode) → Asks outfit step → goes_down_lem step wanted ≡ false → P step wanted AskAgain
+  pub asks_again : (step : Step) (wanted : Mode) → Asks outfit step → goes_down step wanted ≡ false → P step wanted AskAgain
   -- 4, 5 and 8 as wanted
   pub checks : (t : ℕ) → reached ≡ false → P (Checking t) Mode.Full (Count (Checking (risen t)))
   pub passes : (t : ℕ) → reached ≡ true → P (Checking t) Mode.Full Pass
@@ -159,37 +159,37 @@ module _ (done reached : Bool) (outfit : Outfit) (P : Step → Mode → Move →
       by_outfit_lem Fitted e = q (ap (λ (o : Outfit). by_transceiver o false true) e)
       by_outfit_lem Partial e = q (ap (λ (o : Outfit). by_transceiver o false true) e)
 
-  by_partial_lem : {A : Type 0} (Q : A → Type 0) (x y : A) → (by_partial_lem outfit false true ≡ false → Q x) → (by_partial_lem outfit false true ≡ true → Q y)
-      → Q (by_partial_lem outfit x y)
+  by_partial_lem : {A : Type 0} (Q : A → Type 0) (x y : A) → (by_partial outfit false true ≡ false → Q x) → (by_partial outfit false true ≡ true → Q y)
+      → Q (by_partial outfit x y)
   by_partial_lem Q x y p q = by_outfit_lem outfit refl
     where
-      by_outfit_lem : (o : Outfit) → outfit ≡ o → Q (by_partial_lem o x y)
-      by_outfit_lem Bare e = p (ap (λ (o : Outfit). by_partial_lem o false true) e)
-      by_outfit_lem Fitted e = p (ap (λ (o : Outfit). by_partial_lem o false true) e)
-      by_outfit_lem Partial e = q (ap (λ (o : Outfit). by_partial_lem o false true) e)
+      by_outfit_lem : (o : Outfit) → outfit ≡ o → Q (by_partial o x y)
+      by_outfit_lem Bare e = p (ap (λ (o : Outfit). by_partial o false true) e)
+      by_outfit_lem Fitted e = p (ap (λ (o : Outfit). by_partial o false true) e)
+      by_outfit_lem Partial e = q (ap (λ (o : Outfit). by_partial o false true) e)
 
   -- with partial networking there is a transceiver
-  partial_fitted : (o : Outfit) → by_partial_lem o false true ≡ true → by_transceiver o false true ≡ true
+  partial_fitted : (o : Outfit) → by_partial o false true ≡ true → by_transceiver o false true ≡ true
   partial_fitted Bare e = e
   partial_fitted Fitted e = refl
   partial_fitted Partial e = refl
 
   -- ---- by what is done
-  when_done_lem : (step : Step) (wanted : Mode) (x : Move) → Asks outfit step → goes_down_lem step wanted ≡ false → (done ≡ true → P step wanted x)
+  when_done_lem : (step : Step) (wanted : Mode) (x : Move) → Asks outfit step → goes_down step wanted ≡ false → (done ≡ true → P step wanted x)
       → P step wanted (when_done done x)
   when_done_lem step wanted x a g p = split (P step wanted) done p (λ _. by.asks_again step wanted a g)
 
   -- a network that is on and is to be on
   climbing : (step : Step) (x : Move) → suits outfit step ≡ true → is_asking step ≡ true → is_full_step step ≡ false → is_on step ≡ true
-      → (wanted : Mode) → goes_down_lem step wanted ≡ false → (done ≡ true → P step wanted x) → P step wanted (when_done done x)
+      → (wanted : Mode) → goes_down step wanted ≡ false → (done ≡ true → P step wanted x) → P step wanted (when_done done x)
   climbing step x u a f o wanted = when_done_lem step wanted x (on_asks outfit step u a f o)
 
   -- a network that goes down looks at no wanted mode
-  grounded : (step : Step) (wanted : Mode) (x : Move) → Down step → (goes_down_lem step wanted ≡ false → P step wanted x)
-      → P step wanted (cond (goes_down_lem step wanted) GoDown x)
+  grounded : (step : Step) (wanted : Mode) (x : Move) → Down step → (goes_down step wanted ≡ false → P step wanted x)
+      → P step wanted (cond (goes_down step wanted) GoDown x)
   grounded step wanted x d p = by_mode_lem wanted p
     where
-      by_mode_lem : (w : Mode) → (goes_down_lem step w ≡ false → P step w x) → P step w (cond (goes_down_lem step w) GoDown x)
+      by_mode_lem : (w : Mode) → (goes_down step w ≡ false → P step w x) → P step w (cond (goes_down step w) GoDown x)
       by_mode_lem Mode.No q = let o = ap on_phase d.falls in rw o (q o)
       by_mode_lem Mode.Silent q = q refl
       by_mode_lem Mode.Full q = q refl

@@ -13,7 +13,7 @@ use Rattle.steps.specs.declared.Outfit.{Outfit}
 use Rattle.steps.specs.declared.Move.{Move}
 use Rattle.steps.specs.Steps.{phase_of, timer_of, full_phase, is_full_step}
 use Rattle.steps.specs.Decision.{risen}
-use Rattle.steps.specs.After.{first_down, step_after_lem}
+use Rattle.steps.specs.After.{first_down, step_after}
 use Rattle.handing.specs.Handing.{recovery, reset}
 use Rattle.network.specs.declared.State.{State}
 use Rattle.network.specs.State.{started}
@@ -73,7 +73,7 @@ Goes ensure k next m = Checked ensure next (after k m) × (is_pass m ≡ is_full
 module _ (ensure k : ℕ) (some : 0 < ensure) (few : ensure < 65536) (partial done reached : Bool) (outfit : Outfit) where
   abbrev Checks : Step → Mode → Move → Type 0
   Checks step wanted m =
-      ((t : ℕ) → step ≡ Checking t → reached ≡ leb ensure (t + 1)) → Checked ensure step k → Goes ensure k (step_after_lem m step partial) m
+      ((t : ℕ) → step ≡ Checking t → reached ≡ leb ensure (t + 1)) → Checked ensure step k → Goes ensure k (step_after m step partial) m
 
   -- to a step that is not full
   leaves : (next : Step) (m : Move) → is_full_step next ≡ false → is_pass m ≡ false → Goes ensure k next m
@@ -136,7 +136,7 @@ module _ (n : Network) where
 
   -- what a tick makes of it
   pub checked_tick : (s : State) (k : ℕ) → InRange n → Kept n s → suits (own_outfit n) s.step ≡ true → Checked n.ensure s.step k
-      → Goes n.ensure k (step_after_lem (decides n s) s.step n.partial) (decides n s)
+      → Goes n.ensure k (step_after (decides n s) s.step n.partial) (decides n s)
   checked_tick s k g kept u i =
       by_tick_arrow n s (Checks n.ensure k g.ensure.0 g.ensure.1 n.partial (finished n s) (reaches n s) (own_outfit n))
       (checks n.ensure k g.ensure.0 g.ensure.1 n.partial (finished n s) (reaches n s) (own_outfit n)) u kept

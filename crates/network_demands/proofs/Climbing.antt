@@ -22,7 +22,7 @@ use Rattle.steps.specs.declared.Move.{Move}
 use Rattle.steps.specs.declared.Move.TheVariants.{AskAgain}
 use Rattle.steps.specs.Steps.{step_number, phase_of, asks_for, is_up, is_asking}
 use Rattle.steps.specs.Decision.{by_transceiver}
-use Rattle.steps.specs.After.{first_down, step_after_lem}
+use Rattle.steps.specs.After.{first_down, step_after}
 use Rattle.steps.proofs.Laws.{numbered_is}
 use Rattle.handing.specs.Handing.{requests, move_records}
 use Rattle.network.specs.declared.State.{State}
@@ -98,7 +98,7 @@ module _ (n : Network) (g : InRange n) (h : OwnHistory) (rests : Bool) (last tot
     suited : suits (own_outfit n) s.step ≡ true
     suited = (stands n g (q ++ h) r).suited
 
-    advance : tally ticked q < last → Advances n s.told (own_outfit n) (delay_of n s.count) s.step (step_after_lem m s.step n.partial) m
+    advance : tally ticked q < last → Advances n s.told (own_outfit n) (delay_of n s.count) s.step (step_after m s.step n.partial) m
     advance l =
         advances n s.told (delay_of n s.count) n.partial s.step (own_outfit n) (reaches n s) (listed_outfit n) suited
         (no_down n (q ++ h) r (i.told l))
@@ -106,9 +106,9 @@ module _ (n : Network) (g : InRange n) (h : OwnHistory) (rests : Bool) (last tot
     same_records : length (tick_hands n s) ≡ length (move_records n s.step s.told m)
     same_records = ap (λ (x : Move). length (move_records n s.step s.told x)) (moves_on n g s suited o)
 
-    same_step : (tick_after n s).step ≡ step_after_lem m s.step n.partial
+    same_step : (tick_after n s).step ≡ step_after m s.step n.partial
     unfolding after_move
-    same_step = ap (λ (x : Move). step_after_lem x s.step n.partial) (moves_on n g s suited o)
+    same_step = ap (λ (x : Move). step_after x s.step n.partial) (moves_on n g s suited o)
 
     spent_tick : Spent s.step q → Spent (tick_after n s).step (seen a_tick 0 (tick_hands n s) ∷ q)
     unfolding tally record_count
@@ -397,7 +397,7 @@ module _ (n : Network) (g : InRange n) (f : Distinct (controllers_of n)) where
       ≡ records_from_start n
   unfolding record_count move_records after_move
   asked_records s q step asks none =
-      let same : (tick_after n s).step ≡ first_down n.partial = ap (λ (m : Move). step_after_lem m s.step n.partial) asks ∙ step in
+      let same : (tick_after n s).step ≡ first_down n.partial = ap (λ (m : Move). step_after m s.step n.partial) asks ∙ step in
       let out : length (tick_hands n s) ≡ length (requests (asks_for (first_down n.partial)) n) =
       ap (λ (m : Move). length (move_records n s.step s.told m)) asks ∙ ap (λ (x : Step). length (requests (asks_for x) n)) step in
       rw (same) (omega (arith, out, none, down_records n g))

@@ -14,7 +14,7 @@ use Rattle.steps.specs.declared.Outfit.{Outfit}
 use Rattle.steps.specs.declared.Move.{Move}
 use Rattle.steps.specs.declared.Move.TheVariants.{AskAgain}
 use Rattle.steps.specs.Steps.{is_asking, is_full_step}
-use Rattle.steps.specs.After.{step_after_lem}
+use Rattle.steps.specs.After.{step_after}
 use Rattle.network.specs.declared.State.{State}
 use Rattle.network.specs.State.{heard_of}
 use Rattle.network.specs.Rules.{is_refusal, delay_of}
@@ -109,11 +109,11 @@ module _ (n : Network) (g : InRange n) (rests : Bool) (mode : Mode) (last : ℕ)
     m = onward (own_outfit n) (reaches n s) s.step
 
     abbrev next : Step
-    next = step_after_lem m s.step n.partial
+    next = step_after m s.step n.partial
 
     pub same_step : (tick_after n s).step ≡ next
     unfolding after_move
-    same_step = ap (λ (x : Move). step_after_lem x s.step n.partial) (moves_on n g s u o)
+    same_step = ap (λ (x : Move). step_after x s.step n.partial) (moves_on n g s u o)
 
     now_left : left n (tick_after n s) ≡ last - suc (tally ticked q)
     now_left = tick_nearer n g s u o ∙ less_same (left n s) last (tally ticked q) i.left
@@ -229,10 +229,10 @@ module _ (n : Network) (g : InRange n) (f : Distinct (controllers_of n)) (h : Ow
     heads_first : (q : OwnHistory) → tally ticked q ≡ 0 → Heads n (tick_after n s) (seen a_tick 0 (tick_hands n s) ∷ q) rests first.told last
     unfolding after_move tally
     heads_first q k = record {
-      left = rw (k) (ap (λ (m : Move). ticks_left (own_outfit n) (delay_of n (count_after m s.count)) (step_after_lem m s.step n.partial)) asks_first
+      left = rw (k) (ap (λ (m : Move). ticks_left (own_outfit n) (delay_of n (count_after m s.count)) (step_after m s.step n.partial)) asks_first
           ∙ rw (u.step, u.count) (omega arith));
       told = λ _. ap (λ (m : Move). told_after m s.told) asks_first ∙ u.told;
-      rested = λ z. ap (λ (m : Move). has_rested (step_after_lem m s.step n.partial)) asks_first ∙ ap has_rested u.step ∙ i.rested ∙ z;
+      rested = λ z. ap (λ (m : Move). has_rested (step_after m s.step n.partial)) asks_first ∙ ap has_rested u.step ∙ i.rested ∙ z;
     }
 
   -- where the network does not go down full is wanted

@@ -18,7 +18,7 @@ use Rattle.steps.specs.declared.Move.{Move}
 use Rattle.steps.specs.declared.Move.TheVariants.{Stay, AskAgain, Count, EnterFull, EnterSilent, Pass, Wait, GoDown, EnterNoCommunication, Enter}
 use Rattle.steps.specs.Steps.{up_phase, is_up, is_full_step, is_restarting}
 use Rattle.steps.specs.Decision.{decision}
-use Rattle.steps.specs.After.{first_down, step_after_lem}
+use Rattle.steps.specs.After.{first_down, step_after}
 use Rattle.steps.proofs.Laws.{numbered_is, not_restarting}
 use Rattle.handing.specs.Handing.{recovery, reset}
 use Rattle.network.specs.declared.State.{State}
@@ -52,7 +52,7 @@ first_down_other false = refl
 
 -- in step 6 a tick leaves it by the wait or by going down; it does not enter silent, and does not say passed
 record FromSix (partial : Bool) (step : Step) (m : Move) : Type 0 where
-  next : cond (leaves m) false true ≡ is_restarting (step_after_lem m step partial)
+  next : cond (leaves m) false true ≡ is_restarting (step_after m step partial)
   not_silent : is_enter_silent m ≡ false
   not_passed : is_pass m ≡ false
 
@@ -69,7 +69,7 @@ from_six partial Mode.Full done refused reached outfit =
 
 -- any other step leads to another one
 abbrev Other : Bool → Step → Mode → Move → Type 0
-Other partial step wanted m = is_restarting step ≡ false → is_restarting (step_after_lem m step partial) ≡ false
+Other partial step wanted m = is_restarting step ≡ false → is_restarting (step_after m step partial) ≡ false
 
 other : (partial done reached : Bool) (outfit : Outfit) → ByArrow done reached outfit (Other partial)
 other partial done reached outfit = record {
@@ -105,11 +105,11 @@ module _ (n : Network) (s : State) where
 
   -- a tick in any step
   six_after : suits (own_outfit n) s.step ≡ true → Kept n s
-      → cond (leaves (decides n s)) false (is_restarting s.step) ≡ is_restarting (step_after_lem (decides n s) s.step n.partial)
+      → cond (leaves (decides n s)) false (is_restarting s.step) ≡ is_restarting (step_after (decides n s) s.step n.partial)
   six_after u k = by_test (is_restarting s.step) refl
     where
       by_test : (b : Bool) → is_restarting s.step ≡ b
-          → cond (leaves (decides n s)) false b ≡ is_restarting (step_after_lem (decides n s) s.step n.partial)
+          → cond (leaves (decides n s)) false b ≡ is_restarting (step_after (decides n s) s.step n.partial)
       by_test true r = (in_six r).next
       by_test false r = sym (either_way (leaves (decides n s)) false)
           ∙ sym (by_tick_arrow n s (Other n.partial) (other n.partial (finished n s) (reaches n s) (own_outfit n)) u k r)

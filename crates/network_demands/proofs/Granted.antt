@@ -19,7 +19,7 @@ use Rattle.steps.specs.declared.Ask.{Ask}
 use Rattle.steps.specs.declared.Outfit.{Outfit}
 use Rattle.steps.specs.declared.Move.{Move}
 use Rattle.steps.specs.Steps.{asks_for, is_ask, is_asking}
-use Rattle.steps.specs.After.{step_after_lem}
+use Rattle.steps.specs.After.{step_after}
 use Rattle.network.specs.declared.LastAnswer.{LastAnswer}
 use Rattle.network.specs.declared.Heard.{Heard}
 use Rattle.network.specs.declared.Report.{Report}
@@ -203,7 +203,7 @@ module _ (n : Network) (g : InRange n) (s : State) (kept : Kept n s) (q : OwnHis
 -- ---- ticks
 -- after a tick, a step that asks has asked
 abbrev AsksAfter : Bool → Bool → Step → Mode → Move → Type 0
-AsksAfter partial asked step wanted m = is_asking (step_after_lem m step partial) ≡ true → asks_after m asked ≡ true
+AsksAfter partial asked step wanted m = is_asking (step_after m step partial) ≡ true → asks_after m asked ≡ true
 
 ready_tick : (n : Network) (s : State) (q : OwnHistory) → suits (own_outfit n) s.step ≡ true → Kept n s
     → Ready n (tick_after n s) (seen a_tick 0 (tick_hands n s) ∷ q)

@@ -21,7 +21,7 @@ use Rattle.steps.specs.declared.Ask.{Ask}
 use Rattle.steps.specs.declared.Move.{Move}
 use Rattle.steps.specs.declared.Move.TheVariants.{Stay, AskAgain, Count, EnterFull, EnterSilent, Pass, Wait, GoDown, EnterNoCommunication, Enter}
 use Rattle.steps.specs.Steps.{asks_for}
-use Rattle.steps.specs.Decision.{by_mode_lem}
+use Rattle.steps.specs.Decision.{by_mode}
 use Rattle.steps.specs.After.{first_down}
 use Rattle.handing.specs.declared.Round.{Round}
 use Rattle.handing.specs.declared.Errand.{Errand}
@@ -96,7 +96,7 @@ given x partial step told EnterFull = x.pdus PduMode.Online || (x.tells Mode.Ful
 given x partial step told EnterSilent = x.pdus PduMode.TxOffline || (x.tells Mode.Silent || x.notes Notice.Silent)
 given x partial step told Pass = x.passed
 given x partial step told Wait = x.pdus PduMode.TxOffline
-given x partial step told GoDown = (x.notes Notice.No || by_mode_lem told false false (x.tells Mode.Silent)) || x.asks (asks_for (first_down partial))
+given x partial step told GoDown = (x.notes Notice.No || by_mode told false false (x.tells Mode.Silent)) || x.asks (asks_for (first_down partial))
 given x partial step told EnterNoCommunication = x.tells Mode.No
 given x partial step told (Enter next) = x.asks (asks_for next)
 
@@ -117,7 +117,7 @@ module _ (n : Network) (p : Record → Bool) where
         any_append p (map (round_record (Round.Pdu pdu)) (controllers_of n)) _
         ∙ rw (f.pdus pdu, f.tells mode, f.notes notice) (ap (λ (b : Bool). x.pdus pdu || (x.tells mode || b)) (or-false _))
 
-    notices_given : (told : Mode) → any p (down_notices n.handle told) ≡ x.notes Notice.No || by_mode_lem told false false (x.tells Mode.Silent)
+    notices_given : (told : Mode) → any p (down_notices n.handle told) ≡ x.notes Notice.No || by_mode told false false (x.tells Mode.Silent)
     unfolding down_notices any
     notices_given Mode.No = rw (f.notes Notice.No) refl
     notices_given Mode.Silent = rw (f.notes Notice.No) refl
@@ -150,7 +150,7 @@ requests_none n p a b c d Ask.ClearWake = none_of_each p (errand_record Errand.C
 requests_none n p a b c d Ask.CheckWake = none_of_each p (errand_record Errand.Check) d (listed n.transceiver)
 
 -- what is false in any case
-pub nothing_lowered : (told : Mode) → by_mode_lem told false false false ≡ false
+pub nothing_lowered : (told : Mode) → by_mode told false false false ≡ false
 nothing_lowered Mode.No = refl
 nothing_lowered Mode.Silent = refl
 nothing_lowered Mode.Full = refl
@@ -212,7 +212,7 @@ none_by m = sym (both_by (λ a b. false) refl false false false false false fals
 notices_by : (pdus : PduMode → Bool) (tells : Mode → Bool) (notes : Notice → Bool) (passed partial : Bool) (step : Step) (told : Mode) (m : Move)
     → given (of_notices pdus tells notes passed) partial step told m
     ≡ hands_by (pdus PduMode.Online || (tells Mode.Full || notes Notice.Full)) (pdus PduMode.TxOffline || (tells Mode.Silent || notes Notice.Silent))
-    passed (pdus PduMode.TxOffline) (notes Notice.No || by_mode_lem told false false (tells Mode.Silent)) (tells Mode.No) m
+    passed (pdus PduMode.TxOffline) (notes Notice.No || by_mode told false false (tells Mode.Silent)) (tells Mode.No) m
 notices_by pdus tells notes passed partial step told Stay = refl
 notices_by pdus tells notes passed partial step told AskAgain = refl
 notices_by pdus tells notes passed partial step told (Count next) = refl
@@ -336,7 +336,7 @@ module _ (n : Network) where
 
     move_hands : (step : Step) (told : Mode) (m : Move) → any (is kind n.handle argument) (move_records n step told m)
         ≡ hands_by (tells_so Mode.Full || notes_so Notice.Full) (tells_so Mode.Silent || notes_so Notice.Silent) (eqb kind 8 && eqb argument 0) false
-        (notes_so Notice.No || by_mode_lem told false false (tells_so Mode.Silent)) (tells_so Mode.No) m
+        (notes_so Notice.No || by_mode told false false (tells_so Mode.Silent)) (tells_so Mode.No) m
     move_hands step told m =
         let p : Record → Bool = is kind n.handle argument in
         move_given n p (of_notices (λ pdu. false) tells_so notes_so (eqb kind 8 && eqb argument 0)) (record {
@@ -381,7 +381,7 @@ module _ (n : Network) where
   pub move_silent_alone : (step : Step) (told : Mode) (m : Move)
       → any (is 6 n.handle 1) (move_records n step told m) && not (any (is 7 n.handle 0) (move_records n step told m)) ≡ is_enter_silent m
   move_silent_alone step told m =
-      let lowered = by_mode_lem told false false true in
+      let lowered = by_mode told false false true in
       rw (move_hands 6 1 (omega arith) step told m, move_shuts step told m)
       (both_by (λ a b. a && not b) refl false true false false lowered false false false false false true false m ∙ rw (and-false lowered) refl)
 

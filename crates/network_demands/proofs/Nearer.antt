@@ -12,7 +12,7 @@ use Rattle.steps.specs.declared.Step.TheVariants.{ControllersSleep}
 use Rattle.steps.specs.declared.Move.{Move}
 use Rattle.steps.specs.declared.Move.TheVariants.{Stay, AskAgain, Count, EnterFull, EnterSilent, Pass, Wait, GoDown, EnterNoCommunication, Enter}
 use Rattle.steps.specs.Steps.{is_asking}
-use Rattle.steps.specs.After.{step_after_lem}
+use Rattle.steps.specs.After.{step_after}
 use Rattle.network.specs.declared.State.{State}
 use Rattle.network.specs.State.{heard_of}
 use Rattle.network.specs.Rules.{is_refusal, delay_of}
@@ -46,8 +46,8 @@ module _ (n : Network) (g : InRange n) (s : State) (u : suits (own_outfit n) s.s
       goes_onward s.step s.wanted (finished n s) (any is_refusal (heard_of n s)) (reaches n s) (own_outfit n) u o.done o.sleep o.called
 
   -- the count matters only where a delay is left
-  count_aside : (m : Move) → ticks_left (own_outfit n) (delay_of n (count_after m s.count)) (step_after_lem m s.step n.partial)
-      ≡ ticks_left (own_outfit n) (delay_of n s.count) (step_after_lem m s.step n.partial)
+  count_aside : (m : Move) → ticks_left (own_outfit n) (delay_of n (count_after m s.count)) (step_after m s.step n.partial)
+      ≡ ticks_left (own_outfit n) (delay_of n s.count) (step_after m s.step n.partial)
   count_aside Stay = refl
   count_aside AskAgain = refl
   count_aside (Count next) = refl
@@ -64,7 +64,7 @@ module _ (n : Network) (g : InRange n) (s : State) (u : suits (own_outfit n) s.s
   unfolding after_move
   tick_nearer =
       let range = delay_range n g s.count in
-      count_aside (decides n s) ∙ ap (λ (m : Move). ticks_left (own_outfit n) (delay_of n s.count) (step_after_lem m s.step n.partial)) moves_on
+      count_aside (decides n s) ∙ ap (λ (m : Move). ticks_left (own_outfit n) (delay_of n s.count) (step_after m s.step n.partial)) moves_on
       ∙ nearer s.step (own_outfit n) n.ensure (delay_of n s.count) n.partial u range.0 range.1
 
 -- the mode with number 2 is full

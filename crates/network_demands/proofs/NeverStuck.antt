@@ -12,7 +12,7 @@ use Rattle.steps.specs.declared.Step.{Step}
 use Rattle.steps.specs.declared.Outfit.{Outfit}
 use Rattle.steps.specs.declared.Move.{Move}
 use Rattle.steps.specs.Steps.{phase_of, is_restarting}
-use Rattle.steps.specs.After.{step_after_lem}
+use Rattle.steps.specs.After.{step_after}
 use Rattle.steps.proofs.Laws.{numbered_is}
 use Rattle.network.specs.declared.State.{State}
 use Rattle.network.specs.State.{started}
@@ -40,7 +40,7 @@ Counts n s = recovering_phase (phase_of s.step) ≡ true → 0 < s.count
 
 abbrev CountsAfter : Bool → ℕ → Step → Mode → Move → Type 0
 CountsAfter partial count step wanted m =
-    (recovering_phase (phase_of step) ≡ true → 0 < count) → recovering_phase (phase_of (step_after_lem m step partial)) ≡ true → 0 < count_after m count
+    (recovering_phase (phase_of step) ≡ true → 0 < count) → recovering_phase (phase_of (step_after m step partial)) ≡ true → 0 < count_after m count
 
 raised_some : (count : ℕ) → 0 < raised count
 raised_some count = split (λ (x : ℕ). 0 < x) (ltb count 255) (λ _. omega arith) (λ e. omega (arith, ltb-false count 255 e))

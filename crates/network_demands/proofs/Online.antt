@@ -17,7 +17,7 @@ use Rattle.steps.specs.declared.Outfit.{Outfit}
 use Rattle.steps.specs.declared.Move.{Move}
 use Rattle.steps.specs.declared.Move.TheVariants.{Stay, AskAgain, Count, EnterFull, EnterSilent, Pass, Wait, GoDown, EnterNoCommunication, Enter}
 use Rattle.steps.specs.Steps.{phase_of, full_phase, online_phase, is_online_step}
-use Rattle.steps.specs.After.{first_down, step_after_lem}
+use Rattle.steps.specs.After.{first_down, step_after}
 use Rattle.handing.specs.declared.Round.{Round}
 use Rattle.handing.specs.Handing.{round_record, online, entering, entering_full, move_records, recovery, reset}
 use Rattle.network.specs.declared.State.{State}
@@ -81,7 +81,7 @@ abbrev lets_go : Move → Bool
 lets_go m = is_enter_full m || (is_enter_silent m || (false || is_go_down m))
 
 abbrev Holds : Bool → Step → Mode → Move → Type 0
-Holds partial step wanted m = cond (lets_go m) false (is_resetting step) ≡ is_resetting (step_after_lem m step partial)
+Holds partial step wanted m = cond (lets_go m) false (is_resetting step) ≡ is_resetting (step_after m step partial)
 
 holds : (partial done reached : Bool) (outfit : Outfit) → ByArrow done reached outfit (Holds partial)
 holds partial done reached outfit = record {
@@ -200,7 +200,7 @@ entering_online n c own before =
 -- the move of a tick that leaves a network in such a step
 module _ (n : Network) (told : Mode) where
   abbrev Leaves : Step → Mode → Move → Type 0
-  Leaves step wanted m = is_online_step (step_after_lem m step n.partial) ≡ true
+  Leaves step wanted m = is_online_step (step_after m step n.partial) ≡ true
       → (is_enter_full m ≡ true) ⊎ ((is_online_step step ≡ true) × (any (λ (r : Record). eqb 3 r.kind) (move_records n step told m) ≡ false))
 
   leaves : (done reached : Bool) (outfit : Outfit) → ByArrow done reached outfit Leaves

@@ -19,7 +19,7 @@ use Rattle.steps.specs.declared.Ask.{Ask}
 use Rattle.steps.specs.declared.Outfit.TheVariants.{Bare}
 use Rattle.steps.specs.declared.Move.{Move}
 use Rattle.steps.specs.Steps.{phase_of, asks_for, asks_to_start}
-use Rattle.steps.specs.After.{first_down, step_after_lem}
+use Rattle.steps.specs.After.{first_down, step_after}
 use Rattle.network.specs.declared.LastAnswer.{LastAnswer}
 use Rattle.network.specs.declared.Heard.{Heard}
 use Rattle.network.specs.declared.Report.{Report}
@@ -164,7 +164,7 @@ module _ (n : Network) where
     abbrev Moves : Step → Mode → Move → Type 0
     Moves step wanted m =
         (step ≡ TransceiverNormal → done ≡ true → reported ≡ true) → Readied n step answers reported q
-        → Readied n (step_after_lem m step n.partial) (cond (keeps_answers m) answers blank_answers) (cond (keeps_answers m) reported false)
+        → Readied n (step_after m step n.partial) (cond (keeps_answers m) answers blank_answers) (cond (keeps_answers m) reported false)
         (cond (is_end m) [] (seen a_tick 0 records ∷ q))
 
     moves : ByArrow done reached (own_outfit n) Moves

@@ -14,7 +14,7 @@ use Rattle.steps.specs.declared.Ask.{Ask}
 use Rattle.steps.specs.declared.Outfit.{Outfit}
 use Rattle.steps.specs.declared.Move.{Move}
 use Rattle.steps.specs.Steps.{phase_of, asks_for, is_on, is_up, asks_to_start}
-use Rattle.steps.specs.After.{first_down, step_after_lem}
+use Rattle.steps.specs.After.{first_down, step_after}
 use Rattle.handing.specs.Handing.{move_records, recovery, reset}
 use Rattle.network.specs.declared.Report.{Report}
 use Rattle.network.specs.declared.State.{State}
@@ -62,12 +62,12 @@ down_groups b = let d = first_down_lem b in rw (d.falls, d.starts_not) (refl, re
 -- ---- ticks
 -- what a move makes of the groups of steps, wanted being what is wanted
 record Carries (n : Network) (step : Step) (wanted : Mode) (m : Move) : Type 0 where
-  rested : cond (is_go_down m) false (is_end m || has_rested step) ≡ has_rested (step_after_lem m step n.partial)
+  rested : cond (is_go_down m) false (is_end m || has_rested step) ≡ has_rested (step_after m step n.partial)
   on : cond (is_go_down m) false (cond (is_end m) false ((has_rested step && eqb 2 (mode_number wanted)) || is_on step))
-      ≡ is_on (step_after_lem m step n.partial)
+      ≡ is_on (step_after m step n.partial)
   begun : (told : Mode) → cond (is_go_down m) false (given (of_requests asks_to_start) n.partial step told m || has_begun step)
-      ≡ has_begun (step_after_lem m step n.partial)
-  suited : suits (own_outfit n) (step_after_lem m step n.partial) ≡ true
+      ≡ has_begun (step_after m step n.partial)
+  suited : suits (own_outfit n) (step_after m step n.partial) ≡ true
 
 -- what was so is so once more
 once_more : (a b : Bool) → a || (b || a) ≡ b || a
@@ -178,7 +178,7 @@ module _ (n : Network) (h : OwnHistory) where
     called_move = rw (move_says_no n step told m) refl
 
     stands_move : mode_number mode ≡ wanted h → StandsIn n step h → Carries n step mode m
-        → StandsIn n (step_after_lem m step n.partial) (ticking ∷ h)
+        → StandsIn n (step_after m step n.partial) (ticking ∷ h)
     stands_move w i k = record {
       rested = any_since (hands 6 n.handle 0) (shut n) ticking h
           ∙ rw (move_shuts n step told m, move_says_no n step told m, i.rested) k.rested;
@@ -219,7 +219,7 @@ stands n g (e ∷ h) r =
 abbrev AsksNow : Bool → Report → Step → Mode → Move → Type 0
 AsksNow partial report step wanted m =
     (told : Mode) (asked : Bool) → given (of_requests (λ (ask : Ask). awaits ask report)) partial step told m
-    ≡ cond (asks_after m asked) (awaits (asks_for (step_after_lem m step partial)) report) false
+    ≡ cond (asks_after m asked) (awaits (asks_for (step_after m step partial)) report) false
 
 asks_now : (partial done reached : Bool) (outfit : Outfit) (report : Report) → ByArrow done reached outfit (AsksNow partial report)
 asks_now partial done reached outfit report = record {

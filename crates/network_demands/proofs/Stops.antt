@@ -14,7 +14,7 @@ use Rattle.steps.specs.declared.Step.TheVariants.{ResetStopped}
 use Rattle.steps.specs.declared.Phase.{Phase}
 use Rattle.steps.specs.declared.Move.{Move}
 use Rattle.steps.specs.Steps.{step_number, phase_of, asks_for, timer_of, is_up, asks_to_start}
-use Rattle.steps.specs.After.{first_down, step_after_lem}
+use Rattle.steps.specs.After.{first_down, step_after}
 use Rattle.steps.proofs.Laws.{InPhase, in_phase}
 use Rattle.network.specs.declared.LastAnswer.{LastAnswer}
 use Rattle.network.specs.declared.Heard.{Heard}
@@ -61,7 +61,7 @@ module _ (n : Network) (answers : List Heard) (q : OwnHistory) (records : List R
   -- what a move makes of it
   abbrev Moves : Step → Mode → Move → Type 0
   Moves step wanted m = Stopping n step answers q
-      → Stopping n (step_after_lem m step n.partial) (cond (keeps_answers m) answers blank_answers) (cond (is_go_down m) [] (seen a_tick 0 records ∷ q))
+      → Stopping n (step_after m step n.partial) (cond (keeps_answers m) answers blank_answers) (cond (is_go_down m) [] (seen a_tick 0 records ∷ q))
 
   moves : ByArrow done reached (own_outfit n) Moves
   unfolding said_ok

@@ -16,7 +16,7 @@ use Rattle.settings.proofs.Good.{controllers_counted, some_controller}
 use Rattle.steps.specs.declared.Move.{Move}
 use Rattle.steps.specs.declared.Move.TheVariants.{Stay, AskAgain, Count, EnterFull, EnterSilent, Pass, Wait, GoDown, EnterNoCommunication, Enter}
 use Rattle.steps.specs.Steps.{asks_for, is_full_step}
-use Rattle.steps.specs.After.{first_down, step_after_lem}
+use Rattle.steps.specs.After.{first_down, step_after}
 use Rattle.handing.specs.Handing.{requests, down_notices, going_down, move_records, recovery, reset}
 use Rattle.handing.proofs.Laws.{length_move}
 use Rattle.network.specs.declared.State.{State}
@@ -183,7 +183,7 @@ module _ (n : Network) (g : InRange n) (f : Distinct (controllers_of n)) (h : Ow
       notices Notice.BusOff = refl
 
   -- the record after the tick tells full in just the full steps
-  module _ (now : Ran n (e ∷ h)) (now_full : eqb 2 (told n (e ∷ h)) ≡ is_full_step (step_after_lem m s.step n.partial)) where
+  module _ (now : Ran n (e ∷ h)) (now_full : eqb 2 (told n (e ∷ h)) ≡ is_full_step (step_after m s.step n.partial)) where
     tick_ticks : Ticks n e h
     tick_ticks = record {
       stays_full = λ _ t.

@@ -20,7 +20,7 @@ use Rattle.steps.specs.declared.Move.{Move}
 use Rattle.steps.specs.declared.Move.TheVariants.{AskAgain, Count, EnterFull, EnterSilent, Wait, GoDown, EnterNoCommunication}
 use Rattle.steps.specs.Steps.{phase_of, asks_for, timer_of, is_up, is_full_step, asks_to_start}
 use Rattle.steps.specs.Decision.{risen, decision}
-use Rattle.steps.specs.After.{step_after_lem}
+use Rattle.steps.specs.After.{step_after}
 use Rattle.handing.specs.Handing.{requests, move_records, recovery, reset}
 use Rattle.network.specs.declared.Heard.{Heard}
 use Rattle.network.specs.declared.State.{State}
@@ -164,7 +164,7 @@ module _ (n : Network) (g : InRange n) (told : Mode) (asked : Bool) (answers : L
   -- what a move makes of where the network stands
   abbrev After : Step → Mode → Move → Type 0
   After step wanted m =
-      Stands n (way_of (step_after_lem m step n.partial)) (asks_after m asked) (cond (keeps_answers m) answers blank_answers) (count_after m count)
+      Stands n (way_of (step_after m step n.partial)) (asks_after m asked) (cond (keeps_answers m) answers blank_answers) (count_after m count)
       (cond (is_go_down m) [] (ticking (move_records n step told m) ∷ q)) (cond (is_go_down m) 0 d) (mode_number wanted) (cond (is_go_down m) false x)
 
   gone : (step : Step) → After step Mode.No GoDown

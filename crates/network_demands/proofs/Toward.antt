@@ -19,8 +19,8 @@ use Rattle.steps.specs.declared.Move.TheVariants.{Stay, AskAgain, Count, EnterFu
 use Rattle.steps.specs.declared.Phase.{Phase}
 use Rattle.steps.specs.declared.Ask.{Ask}
 use Rattle.steps.specs.Steps.{step_number, phase_of, timer_of, on_phase, is_on, is_up, is_full_step, is_asking}
-use Rattle.steps.specs.Decision.{by_partial_lem, by_transceiver, risen, is_no, decision}
-use Rattle.steps.specs.After.{step_after_lem}
+use Rattle.steps.specs.Decision.{by_partial, by_transceiver, risen, is_no, decision}
+use Rattle.steps.specs.After.{step_after}
 use Rattle.steps.proofs.Laws.{InPhase, in_phase, numbered_is}
 use Rattle.handing.specs.Handing.{requests, entering, entering_full, move_records}
 use Rattle.network.specs.Rules.{reached_by}
@@ -50,7 +50,7 @@ ticks_left outfit delay (Waiting ticks) = suc (delay - suc ticks)
 ticks_left outfit delay Silent = 1
 ticks_left outfit delay ClearWake = 9
 ticks_left outfit delay DownStopped = by_each outfit 5 7 8
-ticks_left outfit delay TransceiverStandby = by_partial_lem outfit 5 7
+ticks_left outfit delay TransceiverStandby = by_partial outfit 5 7
 ticks_left outfit delay ControllersSleep = by_each outfit 4 6 6
 ticks_left outfit delay CheckWake = 5
 ticks_left outfit delay CheckWakeAgain = 10
@@ -70,7 +70,7 @@ records_below outfit c (Waiting ticks) = 0
 records_below outfit c Silent = 0
 records_below outfit c ClearWake = 5 * c + 6
 records_below outfit c DownStopped = 4 * c + by_each outfit 3 5 6
-records_below outfit c TransceiverStandby = by_partial_lem outfit (3 * c + 4) (4 * c + 5)
+records_below outfit c TransceiverStandby = by_partial outfit (3 * c + 4) (4 * c + 5)
 records_below outfit c ControllersSleep = 3 * c + by_each outfit 3 5 5
 records_below outfit c CheckWake = 3 * c + 4
 records_below outfit c CheckWakeAgain = 5 * c + 7
@@ -93,8 +93,8 @@ onward outfit reached Restarting = Wait
 onward outfit reached (Waiting ticks) = cond reached EnterFull (Count (Waiting (risen ticks)))
 onward outfit reached Silent = EnterFull
 onward outfit reached ClearWake = Enter DownStopped
-onward outfit reached DownStopped = by_partial_lem outfit (Enter ControllersSleep) (Enter TransceiverStandby)
-onward outfit reached TransceiverStandby = by_partial_lem outfit EnterNoCommunication (Enter ControllersSleep)
+onward outfit reached DownStopped = by_partial outfit (Enter ControllersSleep) (Enter TransceiverStandby)
+onward outfit reached TransceiverStandby = by_partial outfit EnterNoCommunication (Enter ControllersSleep)
 onward outfit reached ControllersSleep = by_each outfit EnterNoCommunication (Enter TransceiverStandby) (Enter CheckWake)
 onward outfit reached CheckWake = EnterNoCommunication
 onward outfit reached CheckWakeAgain = Enter ClearWake
@@ -171,15 +171,15 @@ less (suc k) = k
 
 -- the wait comes one tick nearer to its end
 wait_nearer : (outfit : Outfit) (delay ticks : ℕ) (partial : Bool) → delay < 65536
-    → ticks_left outfit delay (step_after_lem (onward outfit (leb delay (ticks + 1)) (Waiting ticks)) (Waiting ticks) partial) ≡ delay - suc ticks
+    → ticks_left outfit delay (step_after (onward outfit (leb delay (ticks + 1)) (Waiting ticks)) (Waiting ticks) partial) ≡ delay - suc ticks
 wait_nearer outfit delay ticks partial l =
-    split (λ (m : Move). ticks_left outfit delay (step_after_lem m (Waiting ticks) partial) ≡ delay - suc ticks) (leb delay (ticks + 1))
+    split (λ (m : Move). ticks_left outfit delay (step_after m (Waiting ticks) partial) ≡ delay - suc ticks) (leb delay (ticks + 1))
     (λ e. omega (arith, leb-true delay (ticks + 1) e))
     (λ e. let more = leb-false delay (ticks + 1) e in
     rw (lt-ltb ticks 65535 (omega (arith, more, l))) (omega (arith, more)))
 
 pub nearer : (step : Step) (outfit : Outfit) (ensure delay : ℕ) (partial : Bool) → suits outfit step ≡ true → 0 < delay → delay < 65536
-    → ticks_left outfit delay (step_after_lem (onward outfit (reached_by (timer_of step) ensure delay) step) step partial)
+    → ticks_left outfit delay (step_after (onward outfit (reached_by (timer_of step) ensure delay) step) step partial)
     ≡ less (ticks_left outfit delay step)
 nearer NoCommunication Bare ensure delay partial u some few = refl
 nearer NoCommunication Fitted ensure delay partial u some few = refl
@@ -188,7 +188,7 @@ nearer TransceiverNormal outfit ensure delay partial u some few = refl
 nearer ControllersStopped outfit ensure delay partial u some few = refl
 nearer ControllersStarted outfit ensure delay partial u some few = refl
 nearer (Checking ticks) outfit ensure delay partial u some few =
-    split (λ (m : Move). ticks_left outfit delay (step_after_lem m (Checking ticks) partial) ≡ 0) (leb ensure (ticks + 1)) (λ _. refl) (λ _. refl)
+    split (λ (m : Move). ticks_left outfit delay (step_after m (Checking ticks) partial) ≡ 0) (leb ensure (ticks + 1)) (λ _. refl) (λ _. refl)
 nearer Full outfit ensure delay partial u some few = refl
 nearer Restarting outfit ensure delay partial u some few = refl
 nearer (Waiting ticks) outfit ensure delay partial u some few = wait_nearer outfit delay ticks partial few
@@ -252,7 +252,7 @@ full_handed step outfit c e = ap (λ (up : Bool). cond up 0 (records_below outfi
 -- until full is told, the told mode stays, but that of a network that comes to rest
 pub keeps_told : (step : Step) (outfit : Outfit) (reached : Bool) (told : Mode) (partial : Bool) → is_full_step step ≡ false
     → (has_rested step ≡ false → told ≡ Mode.No)
-    → told_after (onward outfit reached step) told ≡ cond (is_full_step (step_after_lem (onward outfit reached step) step partial)) Mode.Full told
+    → told_after (onward outfit reached step) told ≡ cond (is_full_step (step_after (onward outfit reached step) step partial)) Mode.Full told
 keeps_told NoCommunication Bare reached told partial f q = refl
 keeps_told NoCommunication Fitted reached told partial f q = refl
 keeps_told NoCommunication Partial reached told partial f q = refl
@@ -263,7 +263,7 @@ keeps_told (Checking ticks) outfit reached told partial f q = absurd (true≢fal
 keeps_told Full outfit reached told partial f q = absurd (true≢false f)
 keeps_told Restarting outfit reached told partial f q = refl
 keeps_told (Waiting ticks) outfit reached told partial f q =
-    split (λ (m : Move). told_after m told ≡ cond (is_full_step (step_after_lem m (Waiting ticks) partial)) Mode.Full told) reached (λ _. refl) (λ _. refl)
+    split (λ (m : Move). told_after m told ≡ cond (is_full_step (step_after m (Waiting ticks) partial)) Mode.Full told) reached (λ _. refl) (λ _. refl)
 keeps_told Silent outfit reached told partial f q = refl
 keeps_told ClearWake outfit reached told partial f q = refl
 keeps_told DownStopped Bare reached told partial f q = refl
@@ -281,7 +281,7 @@ keeps_told ResetStopped outfit reached told partial f q = refl
 keeps_told ResetStarted outfit reached told partial f q = refl
 
 pub keeps_rested : (step : Step) (outfit : Outfit) (reached partial : Bool) → has_rested step ≡ true
-    → has_rested (step_after_lem (onward outfit reached step) step partial) ≡ true
+    → has_rested (step_after (onward outfit reached step) step partial) ≡ true
 keeps_rested NoCommunication Bare reached partial f = refl
 keeps_rested NoCommunication Fitted reached partial f = refl
 keeps_rested NoCommunication Partial reached partial f = refl
@@ -289,11 +289,11 @@ keeps_rested TransceiverNormal outfit reached partial f = refl
 keeps_rested ControllersStopped outfit reached partial f = refl
 keeps_rested ControllersStarted outfit reached partial f = refl
 keeps_rested (Checking ticks) outfit reached partial f =
-    split (λ (m : Move). has_rested (step_after_lem m (Checking ticks) partial) ≡ true) reached (λ _. refl) (λ _. refl)
+    split (λ (m : Move). has_rested (step_after m (Checking ticks) partial) ≡ true) reached (λ _. refl) (λ _. refl)
 keeps_rested Full outfit reached partial f = refl
 keeps_rested Restarting outfit reached partial f = refl
 keeps_rested (Waiting ticks) outfit reached partial f =
-    split (λ (m : Move). has_rested (step_after_lem m (Waiting ticks) partial) ≡ true) reached (λ _. refl) (λ _. refl)
+    split (λ (m : Move). has_rested (step_after m (Waiting ticks) partial) ≡ true) reached (λ _. refl) (λ _. refl)
 keeps_rested Silent outfit reached partial f = refl
 keeps_rested ClearWake outfit reached partial f = absurd (false≢true f)
 keeps_rested DownStopped outfit reached partial f = absurd (false≢true f)
@@ -380,7 +380,7 @@ module _ (n : Network) where
   module _ (told : Mode) (delay : ℕ) (partial : Bool) where
     pub advances : (step : Step) (outfit : Outfit) (reached : Bool) → length (listed n.transceiver) ≡ by_transceiver outfit 0 1
         → suits outfit step ≡ true → is_up step ≡ false
-        → Advances n told outfit delay step (step_after_lem (onward outfit reached step) step partial) (onward outfit reached step)
+        → Advances n told outfit delay step (step_after (onward outfit reached step) step partial) (onward outfit reached step)
     unfolding move_records
     advances NoCommunication Bare reached e u f = record { fewer = omega (arith, length_round ControllerMode.Stopped); rests = refl }
     advances NoCommunication Fitted reached e u f =

@@ -9,8 +9,8 @@ use Rattle.steps.specs.declared.Step.{Step}
 use Rattle.steps.specs.declared.Step.TheVariants.{ControllersStopped, ControllersStarted, ResetStopped}
 use Rattle.steps.specs.declared.Move.{Move}
 use Rattle.steps.specs.Steps.{phase_of, asks_for, full_phase, is_on, is_up, is_full_step, asks_to_start}
-use Rattle.steps.specs.Decision.{is_no, goes_down_lem}
-use Rattle.steps.specs.After.{first_down, step_after_lem}
+use Rattle.steps.specs.Decision.{is_no, goes_down}
+use Rattle.steps.specs.After.{first_down, step_after}
 use Rattle.network.specs.declared.Report.{Report}
 use Rattle.network.specs.declared.State.{State}
 use Rattle.network.specs.Answers.{awaits}
@@ -31,13 +31,13 @@ no_number Mode.No = refl
 no_number Mode.Silent = refl
 no_number Mode.Full = refl
 
-down_number : (step : Step) (mode : Mode) → goes_down_lem step mode ≡ eqb 0 (mode_number mode) && is_on step
+down_number : (step : Step) (mode : Mode) → goes_down step mode ≡ eqb 0 (mode_number mode) && is_on step
 down_number step Mode.No = refl
 down_number step Mode.Silent = refl
 down_number step Mode.Full = refl
 
 -- a step that is on and does not go down
-no_unwanted : (step : Step) (mode : Mode) → is_on step ≡ true → goes_down_lem step mode ≡ false → eqb 0 (mode_number mode) ≡ false
+no_unwanted : (step : Step) (mode : Mode) → is_on step ≡ true → goes_down step mode ≡ false → eqb 0 (mode_number mode) ≡ false
 no_unwanted step Mode.No o g = absurd (true≢false (sym o ∙ g))
 no_unwanted step Mode.Silent o g = refl
 no_unwanted step Mode.Full o g = refl
@@ -64,7 +64,7 @@ module _ (n : Network) (s : State) (u : suits (own_outfit n) s.step ≡ true) (k
 
   -- a full step stays full exactly if full is wanted
   abbrev FullStays : Step → Mode → Move → Type 0
-  FullStays step wanted m = is_full_step step ≡ true → is_full_step (step_after_lem m step n.partial) ≡ eqb 2 (mode_number wanted)
+  FullStays step wanted m = is_full_step step ≡ true → is_full_step (step_after m step n.partial) ≡ eqb 2 (mode_number wanted)
 
   pub full_stays : FullStays s.step s.wanted m
   full_stays = by_tick_arrow n s FullStays (record {
@@ -172,7 +172,7 @@ module _ (n : Network) (s : State) (u : suits (own_outfit n) s.step ≡ true) (k
     pub again : step ≡ ResetStopped → finished n s ≡ true
 
   -- a step that asks again to start is on, and has begun
-  begins_again : (c : ℕ) (step : Step) (wanted : Mode) → Asks (own_outfit n) step → goes_down_lem step wanted ≡ false
+  begins_again : (c : ℕ) (step : Step) (wanted : Mode) → Asks (own_outfit n) step → goes_down step wanted ≡ false
       → awaits (asks_for step) (Report.Controller 1) && member c (controllers_of n) ≡ true → StartAsked c step wanted
   begins_again c step wanted a g f =
       let both = and_both (awaits (asks_for step) (Report.Controller 1)) _ f in
@@ -252,9 +252,9 @@ module _ (n : Network) (s : State) (u : suits (own_outfit n) s.step ≡ true) (k
   -- on the way to a full step, and in it, no controller is asked for anything
   abbrev FullRests : Step → Mode → Move → Type 0
   FullRests step wanted m =
-      is_full_step (step_after_lem m step n.partial) ≡ true → given (round_says n) n.partial step s.told m ≡ false
+      is_full_step (step_after m step n.partial) ≡ true → given (round_says n) n.partial step s.told m ≡ false
 
-  pub full_rests : is_full_step (step_after_lem m s.step n.partial) ≡ true → hands_kind 1 ticking ≡ false
+  pub full_rests : is_full_step (step_after m s.step n.partial) ≡ true → hands_kind 1 ticking ≡ false
   full_rests f = round_given n s.step s.told m ∙ by_tick_arrow n s FullRests (record {
     rests = λ wanted w f. refl;
     called = λ u f. absurd (false≢true f);

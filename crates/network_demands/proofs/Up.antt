@@ -7,7 +7,7 @@ use Rattle.settings.specs.declared.Network.{Network}
 use Rattle.steps.specs.declared.Step.{Step}
 use Rattle.steps.specs.declared.Move.{Move}
 use Rattle.steps.specs.Steps.{up_phase, is_up}
-use Rattle.steps.specs.After.{first_down, step_after_lem}
+use Rattle.steps.specs.After.{first_down, step_after}
 use Rattle.handing.specs.Handing.{recovery, reset}
 use Rattle.network.specs.declared.State.{State}
 use Rattle.network.specs.State.{started}
@@ -46,7 +46,7 @@ first_down_not_up partial = ap up_phase (first_down_lem partial).falls
 
 -- the move that enters full makes a network up, the one that goes down ends that
 abbrev UpAfter : Bool → Step → Mode → Move → Type 0
-UpAfter partial step wanted m = is_up (step_after_lem m step partial) ≡ cond (is_go_down m) false (is_enter_full m || is_up step)
+UpAfter partial step wanted m = is_up (step_after m step partial) ≡ cond (is_go_down m) false (is_enter_full m || is_up step)
 
 up_after : (partial done : Bool) → ByMove done (UpAfter partial)
 up_after partial done = record {
@@ -68,7 +68,7 @@ abbrev VoiceAfter : Bool → Mode → Bool → Step → Mode → Move → Type 0
 VoiceAfter partial told spoken step wanted m =
     eqb 0 (mode_number told) ≡ not spoken → (is_up step ≡ true → spoken ≡ true)
     → (eqb 0 (mode_number (told_after m told)) ≡ not (cond (is_end m) false (is_enter_full m || spoken)))
-    × (is_up (step_after_lem m step partial) ≡ true → cond (is_end m) false (is_enter_full m || spoken) ≡ true)
+    × (is_up (step_after m step partial) ≡ true → cond (is_end m) false (is_enter_full m || spoken) ≡ true)
 
 lowered_no : (told : Mode) → eqb 0 (mode_number (lowered told)) ≡ eqb 0 (mode_number told)
 lowered_no Mode.No = refl

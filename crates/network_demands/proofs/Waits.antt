@@ -14,7 +14,7 @@ use Rattle.steps.specs.declared.Step.TheVariants.{CheckWake, CheckWakeAgain, Res
 use Rattle.steps.specs.declared.Move.{Move}
 use Rattle.steps.specs.Steps.{up_phase, is_asking}
 use Rattle.steps.specs.Decision.{risen}
-use Rattle.steps.specs.After.{step_after_lem}
+use Rattle.steps.specs.After.{step_after}
 use Rattle.network.specs.declared.Heard.{Heard}
 use Rattle.network.specs.declared.State.{State}
 use Rattle.network.specs.Moving.{after_move}
@@ -60,7 +60,7 @@ risen_some t = split (λ (x : ℕ). false ≡ eqb 0 x) (ltb t 65535) (λ _. sym 
 
 -- the move that waits leads to where the delay begins, and no other does
 abbrev Waits : Bool → Step → Mode → Move → Type 0
-Waits partial step wanted m = is_wait m ≡ is_beginning (way_of (step_after_lem m step partial))
+Waits partial step wanted m = is_wait m ≡ is_beginning (way_of (step_after m step partial))
 
 module _ (n : Network) (g : InRange n) (h : OwnHistory) (r : Ran n h) where
   abbrev s : State

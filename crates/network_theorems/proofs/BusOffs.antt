@@ -15,13 +15,13 @@ use Rattle.network.specs.Parts.{a_bus_off, hit_reply, hit_part, part_of}
 use Rattle.network_theorems.specs.BusOffs.{bus_off_number, count_at}
 
 -- the count after what a step makes of it
-abbrev count_by_lem : Hit → Step → ℕ → ℕ
-count_by_lem Hit.Recover step count = counted_in step count
-count_by_lem Hit.Restart step count = count
-count_by_lem Hit.Reset step count = count
-count_by_lem Hit.NotTaken step count = count
+abbrev count_by : Hit → Step → ℕ → ℕ
+count_by Hit.Recover step count = counted_in step count
+count_by Hit.Restart step count = count
+count_by Hit.Reset step count = count
+count_by Hit.NotTaken step count = count
 
-count_by_lem : (s : State) (hit : Hit) → (after_hit s hit).count ≡ count_by_lem hit s.step s.count
+count_by_lem : (s : State) (hit : Hit) → (after_hit s hit).count ≡ count_by hit s.step s.count
 unfolding after_hit made_anew
 count_by_lem s Hit.Recover = refl
 count_by_lem s Hit.Restart = refl
@@ -30,7 +30,7 @@ count_by_lem s Hit.NotTaken = refl
 
 -- B2, B5, B6: step by step
 step_bus_off : (step : Step) (count : ℕ)
-    → (reply_number (hit_reply (hit_of step)) ≡ bus_off_number (step_number step)) × (count_by_lem (hit_of step) step count ≡ count_at (step_number step) count)
+    → (reply_number (hit_reply (hit_of step)) ≡ bus_off_number (step_number step)) × (count_by (hit_of step) step count ≡ count_at (step_number step) count)
 unfolding hit_of
 step_bus_off NoCommunication count = (refl, refl)
 step_bus_off TransceiverNormal count = (refl, refl)

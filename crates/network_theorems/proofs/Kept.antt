@@ -16,7 +16,7 @@ use Rattle.steps.specs.declared.Move.{Move}
 use Rattle.steps.specs.declared.Ask.{Ask}
 use Rattle.steps.specs.Steps.{full_phase, asks_for, is_up, is_full_step, is_ask, is_asking}
 use Rattle.steps.specs.Decision.{decision}
-use Rattle.steps.specs.After.{first_down, step_after_lem}
+use Rattle.steps.specs.After.{first_down, step_after}
 use Rattle.network.specs.declared.LastAnswer.{LastAnswer}
 use Rattle.network.specs.declared.Heard.{Heard}
 use Rattle.network.specs.declared.Hit.{Hit}
@@ -42,7 +42,7 @@ blank_slots (suc (suc (suc (suc k)))) = rw (take-nil k) refl
 -- ---- told: full exactly in steps 4 and 5
 abbrev ToldFits : Step → Mode → Move → Type 0
 ToldFits step wanted m =
-    (told : Mode) (partial : Bool) → is_full_mode told ≡ is_full_step step → is_full_mode (told_after m told) ≡ is_full_step (step_after_lem m step partial)
+    (told : Mode) (partial : Bool) → is_full_mode told ≡ is_full_step step → is_full_mode (told_after m told) ≡ is_full_step (step_after m step partial)
 
 pub lowered_not_full : (told : Mode) → is_full_mode (lowered told) ≡ false
 lowered_not_full Mode.No = refl
@@ -71,7 +71,7 @@ told_fits done = record {
 -- ---- wanted: silent only in up steps
 abbrev WantedFits : Step → Mode → Move → Type 0
 WantedFits step wanted m =
-    (partial : Bool) → (wanted ≡ Mode.Silent → is_up step ≡ true) → wanted ≡ Mode.Silent → is_up (step_after_lem m step partial) ≡ true
+    (partial : Bool) → (wanted ≡ Mode.Silent → is_up step ≡ true) → wanted ≡ Mode.Silent → is_up (step_after m step partial) ≡ true
 
 not_silent : {A : Type 0} (f : Mode.No ≡ Mode.Silent) → A
 not_silent f = absurd (let z : ◌≡◌ {A = ℕ} 0 1 = cc in omega arith)
@@ -97,7 +97,7 @@ abbrev FormFits : Step → Mode → Move → Type 0
 FormFits step wanted m =
     (partial asked reported : Bool) (answers : List Heard)
     → (is_asking step ≡ false → (asked ≡ false) × (answers ≡ blank_answers) × (reported ≡ false))
-    → is_asking (step_after_lem m step partial) ≡ false
+    → is_asking (step_after m step partial) ≡ false
     → (asks_after m asked ≡ false) × (cond (keeps_answers m) answers blank_answers ≡ blank_answers) × (cond (keeps_answers m) reported false ≡ false)
 
 first_down_asks : (partial : Bool) → is_asking (first_down partial) ≡ true

@@ -12,7 +12,7 @@ use Rattle.steps.specs.declared.Outfit.TheVariants.{Bare, Fitted, Partial}
 use Rattle.steps.specs.declared.Move.{Move}
 use Rattle.steps.specs.declared.Move.TheVariants.{Stay, AskAgain, Count, EnterFull, EnterSilent, Pass, Wait, GoDown, EnterNoCommunication, Enter}
 use Rattle.steps.specs.Steps.{phase_of, asks_for, is_on, is_up, is_full_step, is_asking, asks_to_start}
-use Rattle.steps.specs.Decision.{by_mode_lem, by_partial_lem, by_transceiver, when_done, rule_of, decision}
+use Rattle.steps.specs.Decision.{by_mode, by_partial, by_transceiver, when_done, rule_of, decision}
 use Rattle.network_theorems.specs.Kept.{Quiet, Unsaid}
 
 -- P step wanted move, for each kind of move, with what is known of the steps that it leaves and enters, and where a step is left because it is
@@ -47,13 +47,13 @@ module _ (P : Step → Mode → Move → Type 0) (done : Bool) (by : ByMove done
   either false x y p q = q
 
   by_mode_lem : {step : Step} {wanted : Mode} (mode : Mode) (x y z : Move) → P step wanted x → P step wanted y → P step wanted z
-      → P step wanted (by_mode_lem mode x y z)
+      → P step wanted (by_mode mode x y z)
   by_mode_lem Mode.No x y z p q r = p
   by_mode_lem Mode.Silent x y z p q r = q
   by_mode_lem Mode.Full x y z p q r = r
 
   by_partial_lem : {step : Step} {wanted : Mode} (outfit : Outfit) (x y : Move) → P step wanted x → P step wanted y
-      → P step wanted (by_partial_lem outfit x y)
+      → P step wanted (by_partial outfit x y)
   by_partial_lem Bare x y p q = p
   by_partial_lem Fitted x y p q = p
   by_partial_lem Partial x y p q = q

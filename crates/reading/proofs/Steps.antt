@@ -5,7 +5,7 @@ use Rattle.lists.proofs.Tests.{split}
 use Rattle.fields.specs.declared.Field.{Field}
 use Rattle.fields.specs.declared.Field.TheVariants.{Stub, Overrun, Whole}
 use Rattle.fields.specs.Fields.{front, row_at, next_of, ReadAt}
-use Rattle.fields.proofs.Laws.{Lies, front_lies, row_further, row_from_lem, row_from_lem}
+use Rattle.fields.proofs.Laws.{Lies, front_lies, row_further, row_from, row_from_lem}
 use Rattle.settings.specs.declared.Network.{Network}
 use Rattle.settings.specs.declared.Settings.{Settings}
 use Rattle.settings.specs.declared.Id.TheVariants.{OfNetwork}
@@ -43,15 +43,15 @@ Taken (Entry.Threshold x) = Unit
 Taken (Entry.Partial x) = Unit
 Taken (Entry.Relation x) = Unit
 
-taken_from : (s : List ℕ) (at : ℕ) (f : Field) → front at (drop at s) ≡ f → Taken (entry_at (row_from_lem s at f)) → Further s at (next_of f at)
+taken_from : (s : List ℕ) (at : ℕ) (f : Field) → front at (drop at s) ≡ f → Taken (entry_at (row_from s at f)) → Further s at (next_of f at)
 unfolding entry_at
 taken_from s at Field.End e t = absurd t
 taken_from s at (Stub tag) e t = absurd t
 taken_from s at (Overrun tag n) e t = absurd t
 taken_from s at (Whole tag n next) e t = let r = row_further s at tag n next e in (omega arith, r.2)
 
-sheet_from : (s : List ℕ) (at : ℕ) (S : Settings) (f : Field) → sheet (row_from_lem s at f) S ≡ after_opening
-    (opens S (entry_at (row_from_lem s at f))) S (entry_at (row_from_lem s at f)) at (λ handle. network (row_at s (next_of f at)) S (begun handle) Named)
+sheet_from : (s : List ℕ) (at : ℕ) (S : Settings) (f : Field) → sheet (row_from s at f) S ≡ after_opening
+    (opens S (entry_at (row_from s at f))) S (entry_at (row_from s at f)) at (λ handle. network (row_at s (next_of f at)) S (begun handle) Named)
     (λ more. sheet (row_at s (next_of f at)) more)
 unfolding sheet after_opening opens entry_at
 sheet_from s at S Field.End = refl
@@ -59,8 +59,8 @@ sheet_from s at S (Stub tag) = refl
 sheet_from s at S (Overrun tag n) = refl
 sheet_from s at S (Whole tag n next) = refl
 
-network_from : (s : List ℕ) (at : ℕ) (S : Settings) (N : Network) (P : Progress) (f : Field) → network (row_from_lem s at f) S N P ≡
-    after_filling (fills S N P (entry_at (row_from_lem s at f))).filling (fills S N P (entry_at (row_from_lem s at f))).network (entry_at (row_from_lem s at f)) at
+network_from : (s : List ℕ) (at : ℕ) (S : Settings) (N : Network) (P : Progress) (f : Field) → network (row_from s at f) S N P ≡
+    after_filling (fills S N P (entry_at (row_from s at f))).filling (fills S N P (entry_at (row_from s at f))).network (entry_at (row_from s at f)) at
     (λ m progress. network (row_at s (next_of f at)) S m progress) (λ m. sheet (row_at s (next_of f at)) (pushed S m))
 unfolding network after_filling fills entry_at
 network_from s at S N P Field.End = refl
@@ -124,7 +124,7 @@ place_near Empty entry at = omega arith
 module _ (s : List ℕ) (at : ℕ) (few : length s < 2 ^ 63) (S : Settings) (fault : Fault) where
   -- of what stands there
   abbrev Fits : Field → Type 0
-  Fits f = front at (drop at s) ≡ f → place_of fault (entry_at (row_from_lem s at f)) at < 2 ^ 64
+  Fits f = front at (drop at s) ≡ f → place_of fault (entry_at (row_from s at f)) at < 2 ^ 64
 
   inside_fits : (entry : Entry) → at < length s → place_of fault entry at < 2 ^ 64
   inside_fits entry inside = omega (arith, place_near fault entry at, inside, few)
@@ -132,19 +132,19 @@ module _ (s : List ℕ) (at : ℕ) (few : length s < 2 ^ 63) (S : Settings) (fau
   stub_fits : (tag : ℕ) → Fits (Stub tag)
   stub_fits tag e =
       let l : 0 < length (drop at s) = subst (Lies at (drop at s)) e (front_lies at (drop at s)) in
-      inside_fits (entry_at (row_from_lem s at (Stub tag))) (omega (arith, length-drop at s, l))
+      inside_fits (entry_at (row_from s at (Stub tag))) (omega (arith, length-drop at s, l))
 
   overrun_fits : (tag n : ℕ) → Fits (Overrun tag n)
   overrun_fits tag n e =
       let l : 3 ≤ length (drop at s) = subst (Lies at (drop at s)) e (front_lies at (drop at s)) in
-      inside_fits (entry_at (row_from_lem s at (Overrun tag n))) (omega (arith, length-drop at s, l))
+      inside_fits (entry_at (row_from s at (Overrun tag n))) (omega (arith, length-drop at s, l))
 
   whole_fits : (tag n next : ℕ) → Fits (Whole tag n next)
   whole_fits tag n next e =
-      let r = row_further s at tag n next e in inside_fits (entry_at (row_from_lem s at (Whole tag n next))) (omega arith)
+      let r = row_further s at tag n next e in inside_fits (entry_at (row_from s at (Whole tag n next))) (omega arith)
 
   -- the end is not refused where a network may begin
-  opened_fits : (f : Field) → Refuses fault ≡ opens S (entry_at (row_from_lem s at f)) → Fits f
+  opened_fits : (f : Field) → Refuses fault ≡ opens S (entry_at (row_from s at f)) → Fits f
   unfolding opens entry_at
   opened_fits Field.End x = absurd (let z : ◌≡◌ {A = ℕ} 0 1 = cc in omega arith)
   opened_fits (Stub tag) x = stub_fits tag
@@ -152,7 +152,7 @@ module _ (s : List ℕ) (at : ℕ) (few : length s < 2 ^ 63) (S : Settings) (fau
   opened_fits (Whole tag n next) x = whole_fits tag n next
 
   -- within a network it is, and told where it is
-  filled_fits : (N : Network) (P : Progress) (f : Field) → (fills S N P (entry_at (row_from_lem s at f))).filling ≡ Filling.Refused fault → at < 2 ^ 64 → Fits f
+  filled_fits : (N : Network) (P : Progress) (f : Field) → (fills S N P (entry_at (row_from s at f))).filling ≡ Filling.Refused fault → at < 2 ^ 64 → Fits f
   unfolding fills entry_at
   filled_fits N P Field.End x fits = λ _. let same : Cut ≡ fault = cc in rw (← same) fits
   filled_fits N P (Stub tag) x fits = stub_fits tag
@@ -175,7 +175,7 @@ filled_taken S N P (Entry.Relation x) h = tt
 
 -- as the code has it: the entry, what it does, and the next place
 module _ {s : List ℕ} {at : ℕ} {entry : Entry} {next : ℕ} (r : ReadAt entry_at s at entry next) (S : Settings) where
-  here : row_at s at ≡ row_from_lem s at (front at (drop at s))
+  here : row_at s at ≡ row_from s at (front at (drop at s))
   here = row_from_lem s at (front at (drop at s)) refl
 
   further : Taken entry → Further s at next

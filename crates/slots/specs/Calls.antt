@@ -198,8 +198,8 @@ unfoldable pub listened : Manager → Bool → Outcome
 listened m listening = accepted (with_listening m listening) (length (online_anew m listening))
 
 -- R13, L1: 1 sets it and 0 clears it; any other value is refused with 21
-abbrev pub by_value_lem : {A : Type 0} → ℕ → A → (Bool → A) → A
-by_value_lem value refuse set = cond (ltb 1 value) refuse (set (eqb 1 value))
+abbrev pub by_value : {A : Type 0} → ℕ → A → (Bool → A) → A
+by_value value refuse set = cond (ltb 1 value) refuse (set (eqb 1 value))
 
 -- ---- every call
 
@@ -230,7 +230,7 @@ outcome m (check_done transceiver) = named m (Id.OfTransceiver transceiver) (a_r
 -- R7, R9, R16: 01, 20
 outcome m (tick room) = by_gate m (gate_of m room (tick_needs m)) (all_ticked m)
 -- R7, R9, R13, R24, L1: 01, 20 (whatever it then hands out), 21 (above 1)
-outcome m (listen value room) = by_gate m (gate_of m room (listen_needs m)) (by_value_lem value (refused m Answer.OutOfRange) (listened m))
+outcome m (listen value room) = by_gate m (gate_of m room (listen_needs m)) (by_value value (refused m Answer.OutOfRange) (listened m))
 
 -- the call by which a message comes
 abbrev pub call_of : Message → Call
@@ -261,7 +261,7 @@ by_rules m (transceiver_mode transceiver mode) = []
 by_rules m (clear_done transceiver) = []
 by_rules m (check_done transceiver) = []
 by_rules m (tick room) = gate_records (gate_of m room (tick_needs m)) (gathered tick_records (networks_of m) m.states)
-by_rules m (listen value room) = gate_records (gate_of m room (listen_needs m)) (by_value_lem value [] (online_anew m))
+by_rules m (listen value room) = gate_records (gate_of m room (listen_needs m)) (by_value value [] (online_anew m))
 
 -- H2, L2: the records that a call hands out: those of the rules, with online turned where the manager listens after the call
 unfoldable pub handed_out : Manager → Call → List Record

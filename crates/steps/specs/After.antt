@@ -11,14 +11,14 @@ abbrev pub first_down : Bool → Step
 first_down partial = cond partial ClearWake DownStopped
 
 -- T10, T11, T23 to T25: step 5 after passed, 7 with 0 ticks for the wait, 4 with 0 ticks for full, 8 for silent, the first down step on going down
-abbrev pub step_after_lem : Move → Step → Bool → Step
-step_after_lem Stay step partial = step
-step_after_lem AskAgain step partial = step
-step_after_lem (Count next) step partial = next
-step_after_lem EnterFull step partial = Checking 0
-step_after_lem EnterSilent step partial = Silent
-step_after_lem Pass step partial = Full
-step_after_lem Wait step partial = Waiting 0
-step_after_lem GoDown step partial = first_down partial
-step_after_lem EnterNoCommunication step partial = NoCommunication
-step_after_lem (Enter next) step partial = next
+abbrev pub step_after : Move → Step → Bool → Step
+step_after Stay step partial = step
+step_after AskAgain step partial = step
+step_after (Count next) step partial = next
+step_after EnterFull step partial = Checking 0
+step_after EnterSilent step partial = Silent
+step_after Pass step partial = Full
+step_after Wait step partial = Waiting 0
+step_after GoDown step partial = first_down partial
+step_after EnterNoCommunication step partial = NoCommunication
+step_after (Enter next) step partial = next

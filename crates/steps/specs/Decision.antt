@@ -17,16 +17,16 @@ use Rattle.steps.specs.Steps.{is_on}
 
 -- ---- what the rules are put together from
 -- one of three, where no, silent or full is wanted
-abbrev pub by_mode_lem : {A : Type 0} → Mode → A → A → A → A
-by_mode_lem Mode.No a b c = a
-by_mode_lem Mode.Silent a b c = b
-by_mode_lem Mode.Full a b c = c
+abbrev pub by_mode : {A : Type 0} → Mode → A → A → A → A
+by_mode Mode.No a b c = a
+by_mode Mode.Silent a b c = b
+by_mode Mode.Full a b c = c
 
 -- one of two: without partial networking, and with it
-abbrev pub by_partial_lem : {A : Type 0} → Outfit → A → A → A
-by_partial_lem Bare a b = a
-by_partial_lem Fitted a b = a
-by_partial_lem Partial a b = b
+abbrev pub by_partial : {A : Type 0} → Outfit → A → A → A
+by_partial Bare a b = a
+by_partial Fitted a b = a
+by_partial Partial a b = b
 
 -- one of two: without a transceiver, and with one
 abbrev pub by_transceiver : {A : Type 0} → Outfit → A → A → A
@@ -50,15 +50,15 @@ is_no Mode.Silent = false
 is_no Mode.Full = false
 
 -- T3: no is wanted in a step from 1 to 8, in 15 or in 16
-abbrev pub goes_down_lem : Step → Mode → Bool
-goes_down_lem step wanted = cond (is_no wanted) (is_on step) false
+abbrev pub goes_down : Step → Mode → Bool
+goes_down step wanted = cond (is_no wanted) (is_on step) false
 
 -- ---- the rules
 -- the rule of each step, where the network does not go down; steps 9, 13 and 14 without partial networking stay where they are done
 abbrev pub rule_of : Step → Mode → Bool → Bool → Bool → Outfit → Move
 -- T4: where full is wanted it comes up by step 1, without a transceiver by step 2
 rule_of NoCommunication wanted done refused reached outfit =
-    by_mode_lem wanted Stay Stay (by_transceiver outfit (Enter ControllersStopped) (Enter TransceiverNormal))
+    by_mode wanted Stay Stay (by_transceiver outfit (Enter ControllersStopped) (Enter TransceiverNormal))
 -- T5: done, it goes on to 2
 rule_of TransceiverNormal wanted done refused reached outfit = when_done done (Enter ControllersStopped)
 -- T6: done, it goes on to 3
@@ -68,37 +68,37 @@ rule_of ControllersStarted wanted done refused reached outfit = when_done done E
 -- T8 to T10: silent where that is wanted; else one tick more, and passed with the tick that reaches the ensure time
 rule_of (Checking ticks) wanted done refused reached outfit =
     let checked = cond reached Pass (Count (Checking (risen ticks))) in
-    by_mode_lem wanted checked EnterSilent checked
+    by_mode wanted checked EnterSilent checked
 -- T8: silent where that is wanted
-rule_of Full wanted done refused reached outfit = by_mode_lem wanted Stay EnterSilent Stay
+rule_of Full wanted done refused reached outfit = by_mode wanted Stay EnterSilent Stay
 -- T11: done, the wait begins
 rule_of Restarting wanted done refused reached outfit = when_done done Wait
 -- T12, T13: one tick more, and with the tick that reaches the delay it becomes full, or silent where that is wanted
 rule_of (Waiting ticks) wanted done refused reached outfit =
-    cond reached (by_mode_lem wanted EnterFull EnterSilent EnterFull) (Count (Waiting (risen ticks)))
+    cond reached (by_mode wanted EnterFull EnterSilent EnterFull) (Count (Waiting (risen ticks)))
 -- T14: full where that is wanted
-rule_of Silent wanted done refused reached outfit = by_mode_lem wanted Stay Stay EnterFull
+rule_of Silent wanted done refused reached outfit = by_mode wanted Stay Stay EnterFull
 -- T18: done, with partial networking on to 10
-rule_of ClearWake wanted done refused reached outfit = when_done done (by_partial_lem outfit Stay (Enter DownStopped))
+rule_of ClearWake wanted done refused reached outfit = when_done done (by_partial outfit Stay (Enter DownStopped))
 -- T15, T18: done, on to 12, with partial networking to 11
-rule_of DownStopped wanted done refused reached outfit = when_done done (by_partial_lem outfit (Enter ControllersSleep) (Enter TransceiverStandby))
+rule_of DownStopped wanted done refused reached outfit = when_done done (by_partial outfit (Enter ControllersSleep) (Enter TransceiverStandby))
 -- T17, T18: done, on to 0, with partial networking to 12
-rule_of TransceiverStandby wanted done refused reached outfit = when_done done (by_partial_lem outfit EnterNoCommunication (Enter ControllersSleep))
+rule_of TransceiverStandby wanted done refused reached outfit = when_done done (by_partial outfit EnterNoCommunication (Enter ControllersSleep))
 -- T16, T19, T20: done, on to 11 or without a transceiver to 0; with partial networking on to 14 after a refusal, else, done, to 13
 rule_of ControllersSleep wanted done refused reached outfit =
-    by_partial_lem outfit
+    by_partial outfit
     (when_done done (by_transceiver outfit EnterNoCommunication (Enter TransceiverStandby)))
     (cond refused (Enter CheckWakeAgain) (when_done done (Enter CheckWake)))
 -- T21: done, with partial networking on to 0
-rule_of CheckWake wanted done refused reached outfit = when_done done (by_partial_lem outfit Stay EnterNoCommunication)
+rule_of CheckWake wanted done refused reached outfit = when_done done (by_partial outfit Stay EnterNoCommunication)
 -- T22: done, with partial networking back to 9
-rule_of CheckWakeAgain wanted done refused reached outfit = when_done done (by_partial_lem outfit Stay (Enter ClearWake))
+rule_of CheckWakeAgain wanted done refused reached outfit = when_done done (by_partial outfit Stay (Enter ClearWake))
 -- T29: done, it goes on to 16
 rule_of ResetStopped wanted done refused reached outfit = when_done done (Enter ResetStarted)
 -- T30: done, it becomes full, or silent where that is wanted
-rule_of ResetStarted wanted done refused reached outfit = when_done done (by_mode_lem wanted EnterFull EnterSilent EnterFull)
+rule_of ResetStarted wanted done refused reached outfit = when_done done (by_mode wanted EnterFull EnterSilent EnterFull)
 
 -- T3: what a tick decides, where going down is looked at first
 unfoldable pub decision : Step → Mode → Bool → Bool → Bool → Outfit → Move
 decision step wanted done refused reached outfit =
-    cond (goes_down_lem step wanted) GoDown (rule_of step wanted done refused reached outfit)
+    cond (goes_down step wanted) GoDown (rule_of step wanted done refused reached outfit)

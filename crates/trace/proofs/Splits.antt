@@ -3,10 +3,10 @@ use Rattle.lists.proofs.Basics.{ℕ, zero, suc, ◌-◌, ◌≤◌, ◌<◌, ari
 use Rattle.fields.specs.declared.Field.{Field}
 use Rattle.fields.specs.declared.Field.TheVariants.{End, Stub, Overrun, Whole}
 use Rattle.fields.specs.Fields.{front}
-use Rattle.fields.proofs.Laws.{row_further, row_from_lem, row_from_lem}
+use Rattle.fields.proofs.Laws.{row_further, row_from, row_from_lem}
 use Rattle.trace.specs.Splitting.{first_event, events_in, events_from}
 
-pub events_by : (s : List ℕ) (at : ℕ) (f : Field) → front at (drop at s) ≡ f → events_from s at ≡ events_in (length s) (row_from_lem s at f)
+pub events_by : (s : List ℕ) (at : ℕ) (f : Field) → front at (drop at s) ≡ f → events_from s at ≡ events_in (length s) (row_from s at f)
 unfolding events_from
 events_by s at f e = ap (events_in (length s)) (row_from_lem s at f e)
 

@@ -6,7 +6,7 @@ use Rattle.lists.proofs.Stores.{stored_then}
 use Rattle.fields.specs.declared.Field.{Field}
 use Rattle.fields.specs.declared.Field.TheVariants.{Stub, Overrun, Whole}
 use Rattle.fields.specs.Fields.{front, next_of, ReadAt}
-use Rattle.fields.proofs.Laws.{row_further, row_from_lem, row_from_lem}
+use Rattle.fields.proofs.Laws.{row_further, row_from, row_from_lem}
 use Rattle.records.specs.Records.{records_at}
 use Rattle.slots.specs.declared.Manager.{Manager}
 use Rattle.slots.specs.declared.Outcome.{Outcome}
@@ -122,7 +122,7 @@ module _ (s : List ℕ) {at : ℕ} {m : Manager} {o begun : Outcome} {number : �
 
 -- ---- the loop: the next line's event stands further on
 module _ (s : List ℕ) (at : ℕ) (h : at < length s) where
-  further_field : (f : Field) → front at (drop at s) ≡ f → at < item_next (length s) (next_of f at) (item_at (row_from_lem s at f))
+  further_field : (f : Field) → front at (drop at s) ≡ f → at < item_next (length s) (next_of f at) (item_at (row_from s at f))
   unfolding item_at
   further_field Field.End e = h
   further_field (Stub tag) e = h

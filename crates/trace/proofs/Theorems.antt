@@ -14,7 +14,7 @@ use Rattle.trace.specs.Splitting.{events_from}
 use Rattle.trace.specs.Events.{sized, event_of, item_of, item_at}
 use Rattle.trace.specs.Lines.{stop_line, too_long}
 use Rattle.trace.specs.Trace.{item_line, item_manager, item_next, line_at, next_at, point_after, reading_of, first_line, first_manager, first_next}
-use Rattle.trace.specs.Trace.{first_point, decoded, decoded_item, ending, ending_item, run_lines, event_lines, lines_after_lem, trace_of, left}
+use Rattle.trace.specs.Trace.{first_point, decoded, decoded_item, ending, ending_item, run_lines, event_lines, lines_after, trace_of, left}
 use Rattle.trace.specs.Trace.{Fills, over, full, more}
 
 -- ---- a whole field is an event or bad
@@ -117,8 +117,8 @@ module _ (s : List ℕ) where
   by_reading_lem false number m = sym (none_after s number m (length s) (omega arith))
 
   -- after the first line just the lines of the events are left, run one after the other on the started manager
-  pub first_left : lines_after_lem s ≡ left s (first_point s)
-  unfolding lines_after_lem left first_point first_next
+  pub first_left : lines_after s ≡ left s (first_point s)
+  unfolding lines_after left first_point first_next
   first_left = by_reading_lem (eqb (answer_number (reading_of s).answer) 0) 1 (first_manager s)
 
   -- C1: too long an input has one line

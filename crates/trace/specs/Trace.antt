@@ -146,12 +146,12 @@ unfoldable pub event_lines : ℕ → Manager → Row → List (List ℕ)
 event_lines number m row = run_lines number m (decoded row) ++ ending row
 
 -- C16: the lines after the first; there is none after a refused sheet
-unfoldable pub lines_after_lem : List ℕ → List (List ℕ)
-lines_after_lem s = by_reading (reading_of s) (event_lines 1 (first_manager s) (row_at s (events_from s 0))) []
+unfoldable pub lines_after : List ℕ → List (List ℕ)
+lines_after s = by_reading (reading_of s) (event_lines 1 (first_manager s) (row_at s (events_from s 0))) []
 
 -- C1: the whole output for an input
 unfoldable pub trace_of : List ℕ → List (List ℕ)
-trace_of s = cond (ltb 65536 (length s)) (too_long ∷ []) (first_line s ∷ lines_after_lem s)
+trace_of s = cond (ltb 65536 (length s)) (too_long ∷ []) (first_line s ∷ lines_after s)
 
 -- the bytes of the lines, one after the other
 unfoldable pub output_of : List ℕ → List ℕ

@@ -18,7 +18,7 @@ use Rattle.trace.specs.declared.Event.{Event}
 use Rattle.trace.specs.Events.{call_of}
 use Rattle.trace.specs.Lines.{entry_line, event_line}
 use Rattle.trace.specs.Splitting.{events_from}
-use Rattle.trace.specs.Trace.{reading_of, first_line, first_manager, ending, run_lines, event_lines, lines_after_lem, trace_of}
+use Rattle.trace.specs.Trace.{reading_of, first_line, first_manager, ending, run_lines, event_lines, lines_after, trace_of}
 use Rattle.demands.specs.Demands.{Begun, Demand3}
 use Rattle.demands.specs.ComesUp.{ComesUp}
 use Rattle.demands.specs.Listening.{Listening, ListensIn}
@@ -87,7 +87,7 @@ module _ (s : List ℕ) (bytes : Bytes s) (taken : eqb (answer_number (reading_o
 
   -- what `cantrace` writes for it is a history since the start
   pub recorded : ltb 65536 (length s) ≡ false → Recorded s
-  unfolding trace_of lines_after_lem event_lines history_lines
+  unfolding trace_of lines_after event_lines history_lines
   recorded short = record {
     begun = first_begun;
     since = λ es. events_since (first_manager s) (first_manager s) [] es begun;

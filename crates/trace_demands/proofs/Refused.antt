@@ -10,7 +10,7 @@ use Rattle.slots.specs.Calls.{new_manager}
 use Rattle.manager_theorems.proofs.Places.{read_points}
 use Rattle.trace.specs.Lines.{config_line}
 use Rattle.trace.specs.Splitting.{events_from}
-use Rattle.trace.specs.Trace.{reading_of, first_line, lines_after_lem, trace_of}
+use Rattle.trace.specs.Trace.{reading_of, first_line, lines_after, trace_of}
 
 -- no fault has the number of an accepted reading
 fault_refuses : (fault : Fault) → eqb (fault_number fault) 0 ≡ false
@@ -27,7 +27,7 @@ fault_refuses Empty = refl
 module _ (s : List ℕ) (fault : Fault) (refused : (reading_of s).answer ≡ Answer.Sheet fault) where
   -- the whole output is one line, with the number of the refusal and a place
   pub refused_line : length s ≤ 65536 → trace_of s ≡ config_line (fault_number fault) (reading_of s).place ∷ []
-  unfolding trace_of lines_after_lem first_line
+  unfolding trace_of lines_after first_line
   refused_line few = rw (le-ltb 65536 (length s) few, refused, fault_refuses fault) refl
 
   -- in the sheet, which is the front of the recording, the place points at what the refusal says

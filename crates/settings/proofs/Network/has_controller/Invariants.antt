@@ -1,0 +1,10 @@
+-- `settings::Network::has_controller` meets its contract: none of the first `i` ids is the one looked for.
+use Rattle.lists.proofs.Basics.{◌-◌, ◌≤◌, ◌≡◌, false, take}
+use Rattle.settings.specs.Settings.{member}
+use Rattle.settings.proofs.Network.has_controller.Given as goal
+
+abbrev pub invariant-loop-i : goal.invariant-loop-i
+invariant-loop-i l = (l.i ≤ l.used) × (member l.id (take l.i l.ids) ≡ false)
+
+abbrev pub decreases-loop-i : goal.decreases-loop-i
+decreases-loop-i l = l.used - l.i
