@@ -1,8 +1,0 @@
--- `grammar::is_above` meets its contract.
-use Rattle.lists.proofs.Basics.{needs}
-use Rattle.grammar.proofs.is_above.Statement.{statement}
-use Rattle.grammar.proofs.is_above.Tie as tie
-
-pub is_above_spec : {M : Type 1} → statement M
-is_above_spec = tie.close (tie.spec (λ c. search needs) (λ c. search needs) (λ c. simp c.enum_told.given.1)
-    (λ c. simp c.enum-told2.given.1))

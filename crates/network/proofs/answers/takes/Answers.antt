@@ -1,0 +1,12 @@
+-- `network::answers::takes` meets its contract.
+use Rattle.lists.proofs.Basics.{rules}
+use Rattle.network.specs.Answers.{takes_report}
+use Rattle.network.proofs.answers.takes.Goals as goal
+
+pub returns-then-state : goal.returns-then-state
+unfolding takes_report
+returns-then-state c = simp (c.if-state.true, c.asks-ask.ensures, c.is_awaited.ensures)
+
+pub returns : goal.returns
+unfolding takes_report
+returns c = simp c.if-state.false
