@@ -202,30 +202,30 @@ module _ (done reached : Bool) (outfit : Outfit) (P : Step → Mode → Move →
   by_arrow NoCommunication Mode.Silent refused u w = by.rests Mode.Silent refl
   by_arrow NoCommunication Mode.Full refused u w =
       by_transceiver_lem (P NoCommunication Mode.Full) (Enter ControllersStopped) (Enter TransceiverNormal) by.called_bare by.called
-  by_arrow TransceiverNormal Mode.No refused u w = by.goes_down _ refl
+  by_arrow TransceiverNormal Mode.No refused u w = by.goes_down_lem _ refl
   by_arrow TransceiverNormal Mode.Silent refused u w = absurd (false≢true (w refl))
   by_arrow TransceiverNormal Mode.Full refused u w = climbing _ _ u refl refl refl _ refl by.climbs
-  by_arrow ControllersStopped Mode.No refused u w = by.goes_down _ refl
+  by_arrow ControllersStopped Mode.No refused u w = by.goes_down_lem _ refl
   by_arrow ControllersStopped Mode.Silent refused u w = absurd (false≢true (w refl))
   by_arrow ControllersStopped Mode.Full refused u w = climbing _ _ u refl refl refl _ refl by.begins
-  by_arrow ControllersStarted Mode.No refused u w = by.goes_down _ refl
+  by_arrow ControllersStarted Mode.No refused u w = by.goes_down_lem _ refl
   by_arrow ControllersStarted Mode.Silent refused u w = absurd (false≢true (w refl))
   by_arrow ControllersStarted Mode.Full refused u w = climbing _ _ u refl refl refl _ refl by.starts
-  by_arrow (Checking t) Mode.No refused u w = by.goes_down _ refl
+  by_arrow (Checking t) Mode.No refused u w = by.goes_down_lem _ refl
   by_arrow (Checking t) Mode.Silent refused u w = by.silences _ refl
   by_arrow (Checking t) Mode.Full refused u w = split (P (Checking t) Mode.Full) reached (by.passes t) (by.checks t)
-  by_arrow Full Mode.No refused u w = by.goes_down _ refl
+  by_arrow Full Mode.No refused u w = by.goes_down_lem _ refl
   by_arrow Full Mode.Silent refused u w = by.silences _ refl
   by_arrow Full Mode.Full refused u w = by.stays_full
-  by_arrow Restarting Mode.No refused u w = by.goes_down _ refl
+  by_arrow Restarting Mode.No refused u w = by.goes_down_lem _ refl
   by_arrow Restarting Mode.Silent refused u w = climbing _ _ u refl refl refl _ refl (by.waits _ refl)
   by_arrow Restarting Mode.Full refused u w = climbing _ _ u refl refl refl _ refl (by.waits _ refl)
-  by_arrow (Waiting t) Mode.No refused u w = by.goes_down _ refl
+  by_arrow (Waiting t) Mode.No refused u w = by.goes_down_lem _ refl
   by_arrow (Waiting t) Mode.Silent refused u w =
       split (P (Waiting t) Mode.Silent) reached (λ _. by.silences _ refl) (by.waits_on t Mode.Silent refl)
   by_arrow (Waiting t) Mode.Full refused u w =
       split (P (Waiting t) Mode.Full) reached (λ _. by.fills _ refl refl) (by.waits_on t Mode.Full refl)
-  by_arrow Silent Mode.No refused u w = by.goes_down _ refl
+  by_arrow Silent Mode.No refused u w = by.goes_down_lem _ refl
   by_arrow Silent Mode.Silent refused u w = by.stays_silent
   by_arrow Silent Mode.Full refused u w = by.fills _ refl refl
   by_arrow ClearWake wanted refused u w =
@@ -258,10 +258,10 @@ module _ (done reached : Bool) (outfit : Outfit) (P : Step → Mode → Move →
       grounded CheckWakeAgain wanted _ d (λ g. when_done_lem _ _ _ (down_asks outfit CheckWakeAgain u refl d) g (λ _.
       by_partial_lem (P CheckWakeAgain wanted) _ _ (λ o. absurd (false≢true (sym o ∙ u)))
       (λ o. by.sinks _ _ _ d (record { falls = refl; starts_not = refl }) u)))
-  by_arrow ResetStopped Mode.No refused u w = by.goes_down _ refl
+  by_arrow ResetStopped Mode.No refused u w = by.goes_down_lem _ refl
   by_arrow ResetStopped Mode.Silent refused u w = climbing _ _ u refl refl refl _ refl (by.resumes _ refl)
   by_arrow ResetStopped Mode.Full refused u w = climbing _ _ u refl refl refl _ refl (by.resumes _ refl)
-  by_arrow ResetStarted Mode.No refused u w = by.goes_down _ refl
+  by_arrow ResetStarted Mode.No refused u w = by.goes_down_lem _ refl
   by_arrow ResetStarted Mode.Silent refused u w = climbing _ _ u refl refl refl _ refl (λ _. by.silences _ refl)
   by_arrow ResetStarted Mode.Full refused u w = climbing _ _ u refl refl refl _ refl (λ _. by.fills _ refl refl)
 

@@ -114,7 +114,7 @@ module _ (P : Step → Mode → Move → Type 0) (done : Bool) (by : ByMove done
 
   -- ---- the decision
   first_down_lem : (step : Step) (test : Bool) (x : Move) → is_on step ≡ test → P step Mode.No x → P step Mode.No (cond test GoDown x)
-  first_down_lem step true x e p = by.goes_down step e
+  first_down_lem step true x e p = by.goes_down_lem step e
   first_down_lem step false x e p = p
 
   -- whatever holds of each move holds of every decision

@@ -386,7 +386,7 @@ module _ (s : List ℕ) where
   unfolding read_from
   refused_points =
       sheet_right (row_at s 0) (laid_out s) blank_settings
-      (rw (Fields.row_from s 0 (front 0 (drop 0 s)) refl) (first_end blank_settings (front 0 (drop 0 s)) refl))
+      (rw (Fields.row_from_lem s 0 (front 0 (drop 0 s)) refl) (first_end blank_settings (front 0 (drop 0 s)) refl))
 
 -- ---- how far a place can lie
 whole_inside : (b : List ℕ) (place : ℕ) → WholeField b place → place < length b

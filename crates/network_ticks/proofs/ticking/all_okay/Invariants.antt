@@ -1,0 +1,10 @@
+-- `network_ticks::ticking::all_okay` meets its contract: none of the first `i` answers fails.
+use Rattle.lists.proofs.Basics.{◌-◌, ◌≤◌, ◌≡◌, false, take}
+use Rattle.lists.specs.Lists.{any}
+use Rattle.network_ticks.proofs.ticking.all_okay.Given as goal
+
+abbrev pub invariant-loop-i : goal.invariant-loop-i
+invariant-loop-i l = (l.i ≤ l.used) × (any fails (take l.i l.answers) ≡ false)
+
+abbrev pub decreases-loop-i : goal.decreases-loop-i
+decreases-loop-i l = l.used - l.i
