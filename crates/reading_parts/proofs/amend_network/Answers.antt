@@ -1,0 +1,19 @@
+-- `reading_parts::amend_network` meets its contract: the last network is the one before the first slot that is not in use.
+use Rattle.lists.proofs.Basics.{ℕ, ◌-◌, ◌<◌, arith, ◌≡◌, refl, ap, ◌∙◌, length, get_or, length-map, length-take, rules}
+use Rattle.lists.proofs.Parts.{get_d_any}
+use Rattle.settings.specs.Settings.{blank_network}
+use Rattle.entries.specs.Grammar.{add_relation}
+use Rattle.sheet.specs.Reading.{last_place, amended}
+use Rattle.reading_parts.proofs.amend_network.Goals as goal
+
+pub returns : goal.returns
+unfolding amended
+returns c =
+    let s = c.args.settings in
+    let e : length s.networks ≡ 8 = search rules in
+    let place : c.in_use-used.result - 1 ≡ last_place s = omega (arith, length-take s.count s.networks, e, c.in_use-used.ensures, c.requires) in
+    let last : ℕ = c.in_use-used.result - 1 in
+    let within : last < length s.networks = omega (arith, e, c.in_use-used.ensures) in
+    let stored : c.add_relation.result ≡ add_relation (get_or s.networks last blank_network) =
+    c.add_relation.ensures ∙ ap add_relation (get_d_any s.networks last _ blank_network within) in
+    rw (← place, stored) refl

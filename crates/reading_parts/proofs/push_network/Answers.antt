@@ -1,0 +1,8 @@
+-- `reading_parts::push_network` meets its contract.
+use Rattle.lists.proofs.Basics.{refl, rules}
+use Rattle.sheet.specs.Reading.{pushed}
+use Rattle.reading_parts.proofs.push_network.Goals as goal
+
+pub returns : goal.returns
+unfolding pushed
+returns c = refl
