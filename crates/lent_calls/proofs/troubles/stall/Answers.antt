@@ -1,0 +1,20 @@
+-- `lent_calls::troubles::stall` meets its contract.
+use Rattle.lists.proofs.Basics.{rules, refl, sym, ◌∙◌}
+use Rattle.lent_calls.proofs.Ticks.{gate_shut, open_roomy, trouble_open}
+use Rattle.network.specs.declared.Trouble.{Trouble}
+use Rattle.slots.specs.Calls.{outcome, by_rules}
+use Rattle.lent_calls.proofs.troubles.stall.Goals as goal
+
+pub strike_started-requires : goal.strike_started-requires
+strike_started-requires c = open_roomy _ _ 3 (sym c.gate_of.ensures ∙ c.in-Open.is)
+
+pub returns-in-Refused : goal.returns-in-Refused
+unfolding outcome by_rules
+returns-in-Refused c =
+    gate_shut _ _ _ _ _ _ _ _ _ c.gate_of.ensures c.in-Refused.is c.refuse.ensures refl refl
+
+pub returns-in-Open : goal.returns-in-Open
+unfolding outcome by_rules
+returns-in-Open c =
+    trouble_open _ _ _ _ _ Trouble.Stall _ _ _ c.gate_of.ensures c.in-Open.is
+    c.strike_started.ensures refl refl

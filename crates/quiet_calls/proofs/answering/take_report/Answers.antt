@@ -1,0 +1,19 @@
+-- `quiet_calls::answering::take_report` meets its contract.
+use Rattle.lists.proofs.Basics.{rules, refl, ap, ◌∙◌}
+use Rattle.quiet_calls.proofs.Laws.{slot_refused, slot_settled}
+use Rattle.slots.specs.Calls.{named}
+use Rattle.network.specs.Parts.{a_report, report_part, part_of, records_of}
+use Rattle.network.specs.declared.State.{State}
+use Rattle.quiet_calls.proofs.answering.take_report.Goals as goal
+
+pub returns-in-Refused : goal.returns-in-Refused
+unfolding named
+returns-in-Refused c =
+    slot_refused _ _ _ _ _ _ c.slot_of.ensures c.in-Refused.is c.refuse.ensures
+
+pub returns-in-At : goal.returns-in-At
+unfolding named part_of records_of
+returns-in-At c =
+    let a = c.args in
+    slot_settled _ _ (a_report a.report) _ _ _ _ c.slot_of.ensures c.in-At.is
+    (c.report_part.ensures ∙ ap (λ (t : State). report_part t a.report) c.state_at.ensures) refl c.settle.ensures

@@ -1,0 +1,19 @@
+-- `quiet_calls::requesting::request` meets its contract.
+use Rattle.lists.proofs.Basics.{rules, refl, ap, ◌∙◌}
+use Rattle.quiet_calls.proofs.Laws.{slot_refused, slot_settled}
+use Rattle.slots.specs.Calls.{outcome, named}
+use Rattle.network.specs.Parts.{a_request, request_part, part_of, records_of}
+use Rattle.network.specs.declared.State.{State}
+use Rattle.quiet_calls.proofs.requesting.request.Goals as goal
+
+pub returns-in-Refused : goal.returns-in-Refused
+unfolding outcome named
+returns-in-Refused c =
+    slot_refused _ _ _ _ _ _ c.slot_of.ensures c.in-Refused.is c.refuse.ensures
+
+pub returns-in-At : goal.returns-in-At
+unfolding outcome named part_of records_of
+returns-in-At c =
+    let a = c.args in
+    slot_settled _ _ (a_request a.mode) _ _ _ _ c.slot_of.ensures c.in-At.is
+    (c.request_part.ensures ∙ ap (λ (t : State). request_part t a.mode) c.state_at.ensures) refl c.settle.ensures
