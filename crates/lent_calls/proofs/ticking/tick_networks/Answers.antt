@@ -1,7 +1,6 @@
 -- `lent_calls::ticking::tick_networks` meets its contract: after i networks their records are those after a tick, and the buffer has what they hand
 -- out.
-use Rattle.lists.proofs.Basics.{◌-◌, ◌≤◌, ◌<◌, min, arith, ◌≡◌, refl, ap, ◌∙◌, length, take, rules}
-use mathlib.Core.Logic.{⊎_elim}
+use Rattle.lists.proofs.Basics.{sym, ◌-◌, ◌≤◌, ◌<◌, min, arith, ◌≡◌, refl, ap, ◌∙◌, length, take, rules}
 use Rattle.lists.proofs.Parts.{unmapped}
 use Rattle.records.specs.Wrote.{Wrote}
 use Rattle.records.proofs.Laws.{wrote_length}
@@ -12,6 +11,7 @@ use Rattle.slots.proofs.Each.{each_none, each_more}
 use Rattle.lent_calls.proofs.Ticks.{tick_room, tick_wrote, rests_so, rest_kept, rest_wrote, ticks_end}
 use Rattle.lent_calls.proofs.Gathered.{gathered_none}
 use Rattle.lent_calls.proofs.ticking.tick_networks.Goals as goal
+use Rattle.lent_calls.proofs.ticking.tick_networks.Goals.{then-not-rests, else-not-rests}
 
 pub loop-i-init : goal.loop-i-init
 loop-i-init c = (omega arith, refl, each_none _ _, gathered_none tick_records _ _)
@@ -36,14 +36,21 @@ loop-i-preserved c =
     let eight' : length m.states ≡ 8 = search (unmapped, rules) in
     let h : l.i < length m.networks = omega arith in
     let k : l.i < length m.states = omega arith in
-    let r = c.rests.ensures in (
-      omega arith,
-      ⊎_elim (λ w. ap length w.7 ∙ wrote_length w.3.ensures.1 ∙ l.invariant.1) (λ w. ap length w.1 ∙ l.invariant.1) c.if-not-rests.branch,
-      ⊎_elim (λ w. w.8 ∙ each_more tick_state _ _ _ _ _ _ h k l.invariant.2 _ w.3.ensures.0)
-          (λ w. w.2 ∙ rest_kept _ _ _ _ blank_network _ h k l.invariant.2 l.invariant.3 (rests_so _ r w.0.left)) c.if-not-rests.branch,
-      ⊎_elim (λ w. rw (w.7, w.9) (tick_wrote _ _ _ _ _ _ h k l.invariant.2 l.invariant.3 w.3.ensures.1))
-          (λ w. rw (w.1, w.3) (rest_wrote _ _ _ _ blank_network _ h k l.invariant.2 l.invariant.3 (rests_so _ r w.0.left))) c.if-not-rests.branch,
-    )
+    let r = c.rests.ensures in
+    elim c.if-not-rests.branch [
+      then-not-rests w ↦ (
+        omega arith,
+        ap length w.out-is ∙ wrote_length w.tick-ticked.ensures.1 ∙ l.invariant.1,
+        w.states-is ∙ each_more tick_state _ _ _ _ _ _ h k l.invariant.2 _ w.tick-ticked.ensures.0,
+        rw (w.out-is, w.next-is) (tick_wrote _ _ _ _ _ _ h k l.invariant.2 l.invariant.3 w.tick-ticked.ensures.1),
+      )
+    | else-not-rests w ↦ (
+        omega arith,
+        ap length w.out-is ∙ l.invariant.1,
+        w.states-is ∙ rest_kept _ _ _ _ blank_network _ h k l.invariant.2 l.invariant.3 (sym r ∙ w.if-not-rests.false),
+        rw (w.out-is, w.next-is) (rest_wrote _ _ _ _ blank_network _ h k l.invariant.2 l.invariant.3 (sym r ∙ w.if-not-rests.false)),
+      )
+    ]
 
 pub returns : goal.returns
 returns c =
