@@ -1,7 +1,8 @@
 -- Reading from a place on, by what stands there; and that an entry that is taken brings the reader further.
-use Rattle.lists.proofs.Basics.{ℕ, ◌+◌, ◌^◌, ◌≤◌, ◌<◌, arith, leb-false, ◌≡◌, refl, sym, ap, subst, ◌∙◌, List, eqb, leb, length}
+use Rattle.lists.proofs.Basics.{ℕ, ◌+◌, ◌-◌, ◌^◌, ◌≤◌, ◌<◌, arith, leb-false, ◌≡◌, refl, sym, ap, subst, ◌∙◌, List, eqb, leb, length}
 use Rattle.lists.proofs.Basics.{length-drop, drop}
 use Rattle.lists.proofs.Tests.{split}
+use Rattle.fields.specs.declared.Reader.{Reader}
 use Rattle.fields.specs.declared.Field.{Field}
 use Rattle.fields.specs.declared.Field.TheVariants.{Stub, Overrun, Whole}
 use Rattle.fields.specs.Fields.{front, row_at, next_of, ReadAt}
@@ -206,3 +207,8 @@ module _ {s : List ℕ} {at : ℕ} {entry : Entry} {next : ℕ} (r : ReadAt entr
 
     pub fills_further : ((fault : Fault) → m.filling ≡ Filling.Refused fault → ⊥) → Further s at next
     fills_further h = further (filled_taken S N P entry (λ fault x. h fault (ap (λ (k : Filled). k.filling) e ∙ x)))
+
+-- a reader that was moved further has fewer bytes unread
+pub fewer_left : (d moved : Reader) (next : ℕ) → (moved.bytes ≡ d.bytes) × (moved.place ≡ next) → Further d.bytes.now d.place next →
+    length moved.bytes.now - moved.place < length d.bytes.now - d.place
+fewer_left d moved next m further = rw (m.0, m.1) (let l = further.0 in let r = further.1 in omega (arith, l, r))
