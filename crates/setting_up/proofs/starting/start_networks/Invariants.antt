@@ -1,0 +1,14 @@
+-- `setting_up::starting::start_networks` meets its contract: the records of the first `i` networks are at the start.
+use Rattle.lists.proofs.Basics.{◌-◌, ◌≤◌, ◌≡◌, length, take}
+use Rattle.settings.specs.declared.Network.{Network}
+use Rattle.network.specs.declared.State.{State}
+use Rattle.network.specs.State.{started}
+use Rattle.slots.specs.Manager.{each}
+use Rattle.setting_up.proofs.starting.start_networks.Given as goal
+
+abbrev pub invariant-loop-i : goal.invariant-loop-i
+invariant-loop-i l =
+    (l.i ≤ l.used) × (length l.states ≡ 8) × (l.states ≡ each (λ (n : Network) (s : State). started n) (take l.i l.networks) l.initial.states)
+
+abbrev pub decreases-loop-i : goal.decreases-loop-i
+decreases-loop-i l = l.used - l.i
