@@ -120,7 +120,7 @@ module _ (n : Network) where
 
   pub controller_requested : (c mode : ℕ) → member c (controllers_of n) ≡ true → Requested 1 c mode (Report.Controller mode)
   controller_requested c mode own =
-      request_given 1 c mode _ (λ ask. controller_asks c mode ask ∙ rw own (and-true _)) refl refl refl refl
+      request_given 1 c mode (λ ask. awaits ask (Report.Controller mode)) (λ ask. controller_asks c mode ask ∙ rw own (and-true _)) refl refl refl refl
 
   pub transceiver_requested : (t mode : ℕ) → n.transceiver ≡ Transceiver.Present t → Requested 2 t mode (Report.Transceiver mode)
   transceiver_requested t mode present = request_given 2 t mode _ (transceiver_asks t present mode) refl refl refl refl

@@ -273,7 +273,7 @@ module _ (n : Network) where
       let says : PduMode → Bool = λ pdu. eqb argument (pdu_number pdu) in
       move_given n p (of_notices says (λ mode. false) (λ notice. false) false)
       (record { asks = asks; pdus = pdus; tells = tells; notes = notes; passed = passed }) step told m
-      ∙ notices_by says _ _ false n.partial step told m
+      ∙ notices_by says (λ mode. false) (λ notice. false) false n.partial step told m
       ∙ rw (nothing_lowered told, or-false (eqb argument 0), or-false (eqb argument 1)) refl
 
   -- for a controller of the network
