@@ -1,3 +1,2 @@
 // No code: the theorems about the public calls of the manager.
 #![tactic(auto)]
-
