@@ -3,7 +3,7 @@
 -- sheet has two networks whose ids cross: one with handle 7 and controller 3, and one with handle 3 and controller 7. A history has the latest call
 -- first.
 use Rattle.std.specs.Prelude.{ℕ, ◌≡◌, refl, List, [], ◌∷◌, ◌++◌, Bool, true, false, cond, ◌&&◌, eqb, ltb, length, drop, replicate}
-use Rattle.std.proofs.Common.{arith, ap}
+use Rattle.std.proofs.Common.{arith, ap, sym, ◌∙◌}
 use Rattle.records.specs.declared.Record.{Record}
 use Rattle.records.specs.Records.{handed}
 use Rattle.settings.specs.declared.Network.{Network}
@@ -25,7 +25,7 @@ use Rattle.calls.specs.Histories.{Entry, entry_of, History, Address, to, to_all,
 use Rattle.demands.specs.BenchCases.{down, up}
 use Rattle.demands.specs.Histories.{computed_history, started_by, lived, crossed_sheet}
 use Rattle.demands.specs.WrongBoxes.{network_named, network}
-use Rattle.demands.specs.Across.{names, Asked, asked, SameTo, Given, given, Elsewhere, BySheet}
+use Rattle.demands.specs.Across.{names, Asked, itself, ticks, asked, SameTo, Given, given, Elsewhere, BySheet}
 
 -- ---- the networks of the sheet, and the calls
 abbrev seven : Network
@@ -80,9 +80,22 @@ noisy =
 abbrev calm : List Call
 calm = seven_up ++ recovers ++ (a_tick ∷ poll 7 ∷ [])
 
-pub same_beside_noise : SameTo seven (lived crossed_sheet noisy) (lived crossed_sheet calm)
+-- what reaches network 7 in either, the latest first
+abbrev reached : List Asked
+reached =
+    itself (poll 7) ∷ ticks ∷ ticks ∷ ticks ∷ itself (answer 3 1 1) ∷ ticks ∷ itself (bus_off 3 9) ∷ ticks ∷ itself (answer 3 1 1) ∷ ticks
+    ∷ itself (answer 3 0 1) ∷ ticks ∷ itself (request 7 2) ∷ ticks ∷ itself (answer 3 2 1) ∷ ticks ∷ itself (answer 3 0 1) ∷ ticks ∷ []
+
+reached_in_noise : asked seven (lived crossed_sheet noisy) ≡ reached
 unfolding computed_history asked
-same_beside_noise = refl
+reached_in_noise = refl
+
+reached_in_calm : asked seven (lived crossed_sheet calm) ≡ reached
+unfolding computed_history asked
+reached_in_calm = refl
+
+pub same_beside_noise : SameTo seven (lived crossed_sheet noisy) (lived crossed_sheet calm)
+same_beside_noise = reached_in_noise ∙ sym reached_in_calm
 
 -- to the other network they are not the same
 abbrev lengths : List Asked → List Asked → List ℕ
