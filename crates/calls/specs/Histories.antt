@@ -72,7 +72,7 @@ pub data Address : Type 0 where
   to_all : Address
   to_nobody : Address
 
--- T2, B1, X1, L4: by the number of its answer; a tick that was refused concerns nobody, nor does a bus_off_lem or a stall that was refused with 20 and
+-- T2, B1, X1, L4: by the number of its answer; a tick that was refused concerns nobody, nor does a bus-off or a stall that was refused with 20 and
 -- lent too few bytes, nor a call to listen
 abbrev pub address_of : ℕ → Call → Address
 address_of number (read bytes) = to_nobody

@@ -39,11 +39,11 @@ module _ (m₀ : Manager) (b₀ : Begun m₀) (i : ℕ) (h₀ : i < length (netw
   comes_up = record {
     from_rest = λ m s h r. from_rest n range apart (views_of n h) (views_of n s) (parts m s h r);
     on_that_tick_from_rest = λ m t s h r. on_that_tick_from_rest n range apart (views_of n h) (view_of n t) (views_of n s) (parts m (t ∷ s) h r);
-    records_from_rest_lem = λ m s h r. records_from_rest_lem n range apart (views_of n h) (views_of n s) (parts m s h r);
+    records_from_rest = λ m s h r. records_from_rest_lem n range apart (views_of n h) (views_of n s) (parts m s h r);
     from_start = λ m s r. from_start n range apart (views_of n s) (ran m s r);
     to_rest = λ m t s r. to_rest n range apart (view_of n t) (views_of n s) (ran m (t ∷ s) r);
     on_that_tick_from_start = λ m t s r. on_that_tick_from_start n range apart (view_of n t) (views_of n s) (ran m (t ∷ s) r);
-    records_from_start_lem = λ m s r. records_from_start_lem n range apart (views_of n s) (ran m s r);
+    records_from_start = λ m s r. records_from_start_lem n range apart (views_of n s) (ran m s r);
     never_stuck = λ m s h r. never_stuck n range apart (views_of n h) (views_of n s) (parts m s h r);
   }
 

@@ -1,4 +1,4 @@
--- Demand 3, and which bus_offs count, for every network of every started manager, over every history of calls since the start.
+-- Demand 3, and which bus-offs count, for every network of every started manager, over every history of calls since the start.
 use Rattle.lists.proofs.Basics.{ℕ, suc, ◌<◌, ◌≤◌, min, eq-eqb, le-ltb, ◌≡◌, refl, sym, ap, subst, ◌∙◌, [], ◌∷◌, ◌++◌, true}
 use Rattle.lists.proofs.Basics.{false, cond, eqb, ltb, length}
 use Rattle.records.specs.Records.{mode_number}
@@ -98,7 +98,7 @@ module _ (m₀ : Manager) (b₀ : Begun m₀) (i : ℕ) (h₀ : i < length (netw
       ap (λ (x : Slot). (by_slot m x (λ j. polled m (state_at m j).told)).mode) slot
       ∙ ap (λ (t : State). mode_number t.told) (sym (f.state i h₀)) ∙ told_follows n (views_of n h) (f.ran i h₀)
 
-  -- which bus_offs count, by the record in the slot
+  -- which bus-offs count, by the record in the slot
   pub counting : Counting m₀ i
   counting = record {
     restarting = λ m h s.

@@ -1,5 +1,5 @@
 -- The examples E1 to E12, E18 and E19 of docs/RULES.md, by computation on the definitions: one list, one statement. While ticks are counted full is
--- wanted, an ok answers every request before the tick that follows it, and there is no bus_off_lem but those of the example.
+-- wanted, an ok answers every request before the tick that follows it, and there is no bus-off but those of the example.
 use Rattle.std.specs.Prelude.{ℕ, ◌≡◌, refl, List, [], ◌∷◌, ◌++◌, map, take, drop, set}
 use Rattle.sheet.specs.Bench.{bench_sheet, newer_sheet}
 use Rattle.records.specs.declared.Record.{Record}
@@ -69,7 +69,7 @@ polled_full = record { number = 0; count = 0; mode = 2; place = 0; records = [] 
 abbrev full_told : Seen
 full_told = taken_with_three (handed 3 3 0) (handed 6 7 2) (handed 7 7 2)
 
--- B3: what a bus_off_lem while up hands out, for handle 7
+-- B3: what a bus-off while up hands out, for handle 7
 abbrev bus_off_told : Seen
 bus_off_told = taken_with_three (handed 8 7 1) (handed 6 7 1) (handed 7 7 3)
 
@@ -103,11 +103,11 @@ ensured = ticks ∷ ticks ∷ ticks ∷ []
 abbrev in_step5 : List Call
 in_step5 = in_step4 ++ ensured
 
--- a bus_off_lem, and the network is restarted: step 7
+-- a bus-off, and the network is restarted: step 7
 abbrev back : List Call
 back = bus_off 3 9 ∷ ticks ∷ answer 3 1 1 ∷ ticks ∷ []
 
--- what the calls of `back` give: the records of a bus_off_lem, the request to start, an answer that is taken, TX offline
+-- what the calls of `back` give: the records of a bus-off, the request to start, an answer that is taken, TX offline
 abbrev back_seen : List Seen
 back_seen = bus_off_told ∷ taken_with (handed 1 3 1) ∷ taken ∷ taken_with (handed 3 3 1) ∷ []
 
@@ -130,7 +130,7 @@ bench_cases =
     ∷ case [] (read (set bench_sheet 20 254) ∷ read (set bench_sheet 20 255) ∷ []) (sheet_taken 25 ∷ refused_at_place 0x34 20 ∷ [])
     -- E8: partial networking without a transceiver
     ∷ case [] (read (set bench_sheet 24 1) ∷ []) (refused_at_place 0x37 21 ∷ [])
-    -- E9: one bus_off_lem, with the short delay
+    -- E9: one bus-off, with the short delay
     ∷ case in_step5 (back ++ (ticks ∷ ticks ∷ poll 7 ∷ [])) (back_seen ++ (taken ∷ full_told ∷ polled_full ∷ []))
     -- E9: another in the wait, with the long delay
     ∷ case (in_step5 ++ back) (back ++ (ticks ∷ ticks ∷ ticks ∷ ticks ∷ ticks ∷ [])) (back_seen ++ (taken ∷ taken ∷ taken ∷ taken ∷ full_told ∷ []))
@@ -148,7 +148,7 @@ bench_cases =
     ∷ case [] (read (set newer_sheet 28 0) ∷ []) (refused_at_place 0x34 28 ∷ [])
     ∷ case [] (read (take 21 bench_sheet ++ drop 25 newer_sheet) ∷ []) (refused_at_place 0x33 21 ∷ [])
     ∷ case [] (read (drop 25 newer_sheet) ∷ []) (refused_at_place 0x33 0 ∷ [])
-    -- E19: one bus_off_lem, which is as many as the threshold, with the long delay
+    -- E19: one bus-off, which is as many as the threshold, with the long delay
     ∷ case (read newer_sheet ∷ start ∷ (down ++ (up ++ ensured))) (back ++ (ticks ∷ ticks ∷ ticks ∷ ticks ∷ ticks ∷ []))
     (back_seen ++ (taken ∷ taken ∷ taken ∷ taken ∷ full_told ∷ []))
     ∷ []

@@ -16,12 +16,12 @@ pub record ComesUp (m₀ : Manager) (n : Network) : Type 0 where
   pub from_rest : (m : Manager) (s h : History) → Since m₀ m (s ++ h) → FromRest n (views_of n s) (views_of n h)
   pub on_that_tick_from_rest : (m : Manager) (t : Entry) (s h : History) → Since m₀ m (t ∷ (s ++ h))
       → OnThatTickFromRest n (view_of n t) (views_of n s) (views_of n h)
-  pub records_from_rest_lem : (m : Manager) (s h : History) → Since m₀ m (s ++ h) → RecordsFromRest n (views_of n s) (views_of n h)
+  pub records_from_rest : (m : Manager) (s h : History) → Since m₀ m (s ++ h) → RecordsFromRest n (views_of n s) (views_of n h)
   pub from_start : (m : Manager) (s : History) → Since m₀ m s → FromStart n (views_of n s)
   pub to_rest : (m : Manager) (t : Entry) (s : History) → Since m₀ m (t ∷ s) → ToRest n (view_of n t) (views_of n s)
   pub on_that_tick_from_start : (m : Manager) (t : Entry) (s : History) → Since m₀ m (t ∷ s)
       → OnThatTickFromStart n (view_of n t) (views_of n s)
-  pub records_from_start_lem : (m : Manager) (s : History) → Since m₀ m s → RecordsFromStart n (views_of n s)
+  pub records_from_start : (m : Manager) (s : History) → Since m₀ m s → RecordsFromStart n (views_of n s)
   pub never_stuck : (m : Manager) (s h : History) → Since m₀ m (s ++ h) → NeverStuck n (views_of n s) (views_of n h)
 
 -- F1: at rest, as that is read off the history, is step 0 in the record of the network's slot

@@ -1,5 +1,5 @@
 -- Demand 3 for a network of a started manager, over every history of calls since the start, as the network sees it. The words of its sentences stand
--- in `network_demands`. A history has the latest call first: in s ++ (b ∷ h), s follows the bus_off_lem or the stall b, which follows h.
+-- in `network_demands`. A history has the latest call first: in s ++ (b ∷ h), s follows the bus-off or the stall b, which follows h.
 use Rattle.std.specs.Prelude.{ℕ, suc, ◌+◌, ◌*◌, ◌≤◌, min, ◌≡◌, ◌∷◌, ◌++◌, true, cond, eqb, length}
 use Rattle.settings.specs.declared.Network.{Network}
 use Rattle.steps.specs.Steps.{step_number}
@@ -30,7 +30,7 @@ TickTaken needs n t = (room : ℕ) → t.call ≡ tick room → needs ≤ room �
 
 -- exactly when one network is said to be full, and when no was told last; the three sentences of demand 3, the second also for late answers; a tick
 -- that is lent the bytes it needs is accepted; `said_from` is the third sentence again, by the mode last told. The last three say of a stall what
--- `late_answers`, `on_just_that_tick` and `said_from` say of a bus_off_lem while up
+-- `late_answers`, `on_just_that_tick` and `said_from` say of a bus-off while up
 pub record Demand3 (m₀ : Manager) (n : Network) : Type 0 where
   pub told_exactly : (m : Manager) (h : History) → Since m₀ m h → Told n (views_of n h)
   pub told_no : (m : Manager) (h : History) → Since m₀ m h → ToldNo n (views_of n h)
@@ -51,8 +51,8 @@ pub record Demand3 (m₀ : Manager) (n : Network) : Type 0 where
   pub said_from_the_third : (m : Manager) (s : History) (b : Entry) (h : History) → Since m₀ m (s ++ (b ∷ h))
       → SaidFromTheThird n (views_of n s) (view_of n b) (views_of n h)
 
--- which bus_offs count, by the record of the network in a slot: restarting is step 6; the record's count is the number of bus_offs that count since
--- the last all-clear, up to 255; a bus_off_lem of the network raises it exactly if it counts; and one fault is counted once
+-- which bus-offs count, by the record of the network in a slot: restarting is step 6; the record's count is the number of bus-offs that count since
+-- the last all-clear, up to 255; a bus-off of the network raises it exactly if it counts; and one fault is counted once
 pub record Counting (m₀ : Manager) (i : ℕ) : Type 0 where
   pub restarting : (m : Manager) (h : History) → Since m₀ m h
       → eqb 6 (step_number (state_at m i).step) ≡ restarting (network_at m₀ i) (views_of (network_at m₀ i) h)

@@ -124,7 +124,7 @@ module _ where
   unfolding computed_figure
   fourth_tick_with_partial_networking = refl
 
-  -- the neighbours are not at their best: a not ok before each ok, an ok that nobody asked for, a bus_off_lem that is refused, full wanted twice
+  -- the neighbours are not at their best: a not ok before each ok, an ok that nobody asked for, a bus-off that is refused, full wanted twice
   pub third_tick_in_spite : figure_of 1 network
       (a_tick ∷ ok 1 ∷ an_answer 3 1 0 ∷ a_tick ∷ ok 0 ∷ an_answer 3 0 0 ∷ ok 1 ∷ a_bus_off ∷ a_request 2 ∷ a_tick ∷ ok 1 ∷ a_bus_off ∷ a_request 2 ∷ []) rest
       ≡ good true 3 5 2
@@ -176,7 +176,7 @@ module _ where
   unfolding computed_figure
   eleven_ticks = (refl, refl)
 
-  -- the long delay: a second bus_off_lem, in step 7
+  -- the long delay: a second bus-off, in step 7
   pub long_and_two : Needs network
       (a_tick ∷ a_tick ∷ a_tick ∷ a_tick ∷ a_tick ∷ ok 1 ∷ a_tick ∷ []) (a_bus_off ∷ a_tick ∷ ok 1 ∷ a_tick ∷ a_bus_off ∷ full) 6 2 1 5
   unfolding computed_figure

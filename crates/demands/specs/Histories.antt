@@ -46,7 +46,7 @@ lived sheet cs = history_of (started_by sheet) cs []
 abbrev told_after : List ℕ → List Call → ℕ
 told_after sheet cs = told (network_at (started_by sheet) 0) (views_of (network_at (started_by sheet) 0) (lived sheet cs))
 
--- what demand 3 speaks of, in a history that is `after` a bus_off_lem `b` after `earlier`: the premises, and what follows from them
+-- what demand 3 speaks of, in a history that is `after` a bus-off `b` after `earlier`: the premises, and what follows from them
 pub record Summary : Type 0 where
   pub up_bus_off : Bool
   pub further_bus_off : Bool
@@ -54,7 +54,7 @@ pub record Summary : Type 0 where
   pub full_wanted : Bool
   pub granted : Bool
   pub struck : Bool
-  pub first_running_lem : ℕ
+  pub first_running : ℕ
   pub told : ℕ
   pub ticks : ℕ
   pub due : ℕ
@@ -69,22 +69,22 @@ summary_of n after b earlier =
       full_wanted = full_from 1 (views_of n after) (views_of n (b ∷ earlier));
       granted = granted_at_ticks (views_of n after);
       struck = any Rattle.network_demands.specs.Words.struck (views_of n after);
-      first_running_lem = first_running n (views_of n after);
+      first_running = first_running n (views_of n after);
       told = Rattle.network_demands.specs.Words.told n (views_of n (after ++ (b ∷ earlier)));
       ticks = tally ticked (views_of n after);
       due = delay_at n (views_of n (b ∷ earlier)) + 2;
     }
 
--- of the network in a slot, since the start of a manager with the sheet: calls, a bus_off_lem, and calls after it
+-- of the network in a slot, since the start of a manager with the sheet: calls, a bus-off, and calls after it
 abbrev summary_by : List ℕ → ℕ → List Call → Call → List Call → Summary
 summary_by sheet slot before b after =
     let m = run (started_by sheet) before in
     summary_of (network_at (started_by sheet) slot) (history_of (outcome m b).manager after []) (entry_of m b) (lived sheet before)
 
--- a bus_off_lem while up and good ticks since, but for whether each request is granted in time, with the first tick before which all run, the mode told,
+-- a bus-off while up and good ticks since, but for whether each request is granted in time, with the first tick before which all run, the mode told,
 -- the ticks and the tick that is due
 abbrev calm_summary : Bool → ℕ → ℕ → ℕ → ℕ → Summary
-calm_summary granted first_running_lem told ticks due =
+calm_summary granted first_running told ticks due =
     record {
       up_bus_off = true;
       further_bus_off = false;
@@ -92,7 +92,7 @@ calm_summary granted first_running_lem told ticks due =
       full_wanted = true;
       granted = granted;
       struck = false;
-      first_running_lem = first_running_lem;
+      first_running = first_running;
       told = told;
       ticks = ticks;
       due = due;
@@ -115,12 +115,12 @@ pub full_after_the_start : told_after bench_sheet (down ++ up) ≡ 2
 unfolding computed_history
 full_after_the_start = refl
 
--- ---- told full on the fourth tick after a bus_off_lem, by the short delay, and not on the third
+-- ---- told full on the fourth tick after a bus-off, by the short delay, and not on the third
 pub full_after_the_short_delay : summary_by bench_sheet 0 step5 (bus_off 3 9) (restarted ++ (tick 9 ∷ tick 9 ∷ [])) ≡ good_summary 2 4 4
 unfolding computed_history
 full_after_the_short_delay = refl
 
--- on the third tick after the bus_off_lem silent is still told, where full is due on the fourth
+-- on the third tick after the bus-off silent is still told, where full is due on the fourth
 pub not_full_before : summary_by bench_sheet 0 step5 (bus_off 3 9) (restarted ++ (tick 9 ∷ [])) ≡ good_summary 1 3 4
 unfolding computed_history
 not_full_before = refl
@@ -138,7 +138,7 @@ pub full_after_the_long_delay :
 unfolding computed_history
 full_after_the_long_delay = refl
 
--- ---- with field 07 one bus_off_lem is as many as the threshold: told full on the seventh tick, by the long delay, and not on the fourth
+-- ---- with field 07 one bus-off is as many as the threshold: told full on the seventh tick, by the long delay, and not on the fourth
 pub full_at_the_threshold :
     summary_by newer_sheet 0 step5 (bus_off 3 9) (restarted ++ (tick 9 ∷ tick 9 ∷ tick 9 ∷ tick 9 ∷ tick 9 ∷ [])) ≡ good_summary 2 7 7
 unfolding computed_history
@@ -193,7 +193,7 @@ pub full_with_partial_networking : told_after partial_sheet down_and_up ≡ 2
 unfolding computed_history
 full_with_partial_networking = refl
 
--- and after a bus_off_lem of its second controller again, on the fourth tick
+-- and after a bus-off of its second controller again, on the fourth tick
 pub full_again_with_partial_networking :
     summary_by partial_sheet 0 down_and_up (bus_off 2 9) ((tick 12 ∷ both 1) ++ (tick 12 ∷ tick 12 ∷ tick 12 ∷ [])) ≡ good_summary 2 4 4
 unfolding computed_history
@@ -215,7 +215,7 @@ first_up =
     (tick 21 ∷ answer 3 0 1 ∷ both 0) ++ (tick 21 ∷ answer 3 2 1 ∷ both 2) ++ (tick 21 ∷ request 7 2 ∷ tick 21 ∷ answer 3 0 1 ∷ tick
     21 ∷ answer 3 1 1 ∷ tick 21 ∷ request 9 2 ∷ [])
 
--- after a bus_off_lem of the first the second comes up beside it, to step 4; a tick that is refused is among the calls
+-- after a bus-off of the first the second comes up beside it, to step 4; a tick that is refused is among the calls
 abbrev second_up : List Call
 second_up = (tick 21 ∷ answer 3 1 1 ∷ both 0) ++ (tick 20 ∷ tick 21 ∷ both 1) ++ (tick 21 ∷ tick 21 ∷ [])
 
@@ -224,7 +224,7 @@ pub full_beside_another : summary_by sheet_of_two 0 first_up (bus_off 3 9) secon
 unfolding computed_history
 full_beside_another = refl
 
--- and after a bus_off_lem of a controller of the second, that network is told full on the seventh: its threshold is 0
+-- and after a bus-off of a controller of the second, that network is told full on the seventh: its threshold is 0
 pub full_of_the_second : summary_by sheet_of_two 1 (first_up ++ (bus_off 3 9 ∷ second_up)) (bus_off 2 9)
     ((tick 21 ∷ both 1) ++ (tick 21 ∷ tick 21 ∷ tick 21 ∷ tick 21 ∷ tick 21 ∷ tick 21 ∷ [])) ≡ good_summary 2 7 7
 unfolding computed_history
@@ -253,13 +253,13 @@ pub full_on_the_third_tick : told_after bench_sheet (step5 ++ (stall 7 3 ∷ (re
 unfolding computed_history
 full_on_the_third_tick = refl
 
--- no bus_off_lem is counted for it: the first bus_off_lem after it brings the short delay, and full on the fourth tick
+-- no bus-off is counted for it: the first bus-off after it brings the short delay, and full on the fourth tick
 pub short_delay_after_a_stall :
     summary_by bench_sheet 0 (step5 ++ (stall 7 3 ∷ (reset ++ (tick 9 ∷ [])))) (bus_off 3 9) (restarted ++ (tick 9 ∷ tick 9 ∷ [])) ≡ good_summary 2 4 4
 unfolding computed_history
 short_delay_after_a_stall = refl
 
--- a bus_off_lem in the midst of it is taken, counted, and begins a recovery: full on the fourth tick after it
+-- a bus-off in the midst of it is taken, counted, and begins a recovery: full on the fourth tick after it
 pub bus_off_in_a_reset : summary_by bench_sheet 0 (step5 ++ (stall 7 3 ∷ reset)) (bus_off 3 9) (restarted ++ (tick 9 ∷ tick 9 ∷ [])) ≡ good_summary 2 4 4
 unfolding computed_history
 bus_off_in_a_reset = refl
@@ -287,7 +287,7 @@ pub long_delay_after_two_faults : summary_by partial_sheet 0 (down_and_up ++ (bu
 unfolding computed_history
 long_delay_after_two_faults = refl
 
--- a shutdown in step 6, and up again: a bus_off_lem then is a second fault, though nobody went TX offline since the first
+-- a shutdown in step 6, and up again: a bus-off then is a second fault, though nobody went TX offline since the first
 pub long_delay_after_a_shutdown :
     summary_by bench_sheet 0 (step5 ++ (bus_off 3 9 ∷ request 7 0 ∷ tick 9 ∷ answer 3 0 1 ∷ tick 9 ∷ answer 3 2 1 ∷ tick 9 ∷ up)) (bus_off 3 9)
     (restarted ++ (tick 9 ∷ tick 9 ∷ tick 9 ∷ tick 9 ∷ tick 9 ∷ [])) ≡ good_summary 2 7 7

@@ -67,7 +67,7 @@ abbrev both_up : List Call
 both_up =
     (a_tick ∷ both 0) ++ (a_tick ∷ both 2) ++ (a_tick ∷ request 7 2 ∷ request 3 2 ∷ a_tick ∷ both 0) ++ (a_tick ∷ both 1) ++ (a_tick ∷ [])
 
--- a bus_off_lem of network 7, and on to the tick before the one that tells full again
+-- a bus-off of network 7, and on to the tick before the one that tells full again
 abbrev recovers : List Call
 recovers = bus_off 3 9 ∷ a_tick ∷ answer 3 1 1 ∷ a_tick ∷ a_tick ∷ []
 
@@ -165,7 +165,7 @@ is_to_all (to id sight) = false
 is_to_all to_all = true
 is_to_all to_nobody = false
 
--- ---- a neighbour's bus_off_lem resets the timer: a call that names network 3 and hands something out begins the wait of network 7 anew
+-- ---- a neighbour's bus-off resets the timer: a call that names network 3 and hands something out begins the wait of network 7 anew
 abbrev rewound : State → State
 rewound s =
     record {
@@ -263,7 +263,7 @@ pub settings_borrowed : GivenAlike three (history_on borrowing began three_up_an
 unfolding computed_history history_on asked given
 settings_borrowed s = let z : ◌≡◌ {A = ℕ} 1 3 = ap last_count (s refl) in omega (arith, z)
 
--- ---- a neighbour's bus_off_lem tells silent of network 7 too
+-- ---- a neighbour's bus-off tells silent of network 7 too
 abbrev entry : Call → ℕ → List Record → Entry
 entry call number records = record { call = call; number = number; mode = 0; records = records }
 

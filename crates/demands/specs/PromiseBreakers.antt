@@ -72,7 +72,7 @@ starting = a_tick ∷ ok 0 ∷ stopping
 abbrev pub full : List Sight
 full = a_tick ∷ ok 1 ∷ starting
 
--- a bus_off_lem while up; then it is asked to start
+-- a bus-off while up; then it is asked to start
 abbrev restarting : List Sight
 restarting = a_tick ∷ a_bus_off ∷ full
 
@@ -110,9 +110,9 @@ resting = a_request 2 ∷ a_tick ∷ a_report Report.Checked ∷ checking
 abbrev pub running : List Sight
 running = both 1 (a_tick ∷ both 0 (a_tick ∷ a_report (Report.Transceiver 0) ∷ a_tick ∷ resting))
 
--- ---- bus_offs
+-- ---- bus-offs
 module _ where
-  -- `records`: a bus_off_lem while up hands out no 7 bus_off_lem
+  -- `records`: a bus-off while up hands out no 7 bus-off
   pub no_bus_off_notice : BusOffs network (taken a_bus_off (row 8 7 1 ∷ row 6 7 1 ∷ [])) (lives network full) → ⊥
   unfolding computed_life
   no_bus_off_notice b = let z : ◌≡◌ {A = ℕ} 2 3 = ap length (b.records refl) in omega arith
@@ -122,27 +122,27 @@ module _ where
   unfolding computed_life
   bus_off_notice_first b = let z : ◌≡◌ {A = ℕ} 7 8 = ap (kind_at 0) (b.records refl) in omega arith
 
-  -- `records`: a bus_off_lem before the network is up hands them out
+  -- `records`: a bus-off before the network is up hands them out
   pub notices_before_up : BusOffs network (taken a_bus_off (row 8 7 1 ∷ row 6 7 1 ∷ row 7 7 3 ∷ [])) (lives network starting) → ⊥
   unfolding computed_life
   notices_before_up b = let z : ◌≡◌ {A = ℕ} 3 0 = ap length (b.records refl) in omega arith
 
-  -- `accepted`: a bus_off_lem is taken only while up, and refused where the controller was asked to start
+  -- `accepted`: a bus-off is taken only while up, and refused where the controller was asked to start
   pub bus_off_refused_before_up : BusOffs network (refused a_bus_off) (lives network starting) → ⊥
   unfolding computed_life
   bus_off_refused_before_up b = false≢true (b.accepted refl 3 refl)
 
-  -- `accepted`: a bus_off_lem is taken while the network goes down
+  -- `accepted`: a bus-off is taken while the network goes down
   pub bus_off_taken_going_down : BusOffs network (taken a_bus_off []) (lives network falling) → ⊥
   unfolding computed_life
   bus_off_taken_going_down b = true≢false (b.accepted refl 3 refl)
 
-  -- `records`: a second bus_off_lem, while the network restarts, hands out nothing
+  -- `records`: a second bus-off, while the network restarts, hands out nothing
   pub second_report_hidden : BusOffs network (taken a_bus_off []) (lives network restarting) → ⊥
   unfolding computed_life
   second_report_hidden b = let z : ◌≡◌ {A = ℕ} 0 3 = ap length (b.records refl) in omega arith
 
-  -- `records`: a bus_off_lem after a stall hands out nothing
+  -- `records`: a bus-off after a stall hands out nothing
   pub bus_off_hidden_by_a_stall : BusOffs network (taken a_bus_off []) (lives network resetting) → ⊥
   unfolding computed_life
   bus_off_hidden_by_a_stall b = let z : ◌≡◌ {A = ℕ} 0 3 = ap length (b.records refl) in omega arith
@@ -191,7 +191,7 @@ module _ where
   unfolding computed_life
   not_ok_after_ok_refused a = false≢true (a.controllers 3 0 0 refl refl)
 
-  -- `controllers`: an answer is taken between a bus_off_lem and the next request
+  -- `controllers`: an answer is taken between a bus-off and the next request
   pub taken_before_it_is_asked : Answers network (taken (ok 1) []) (lives network (a_bus_off ∷ restarting)) → ⊥
   unfolding computed_life
   taken_before_it_is_asked a = true≢false (a.controllers 3 1 1 refl refl)
@@ -223,7 +223,7 @@ module _ where
   unfolding computed_life
   silent_coming_up q = true≢false (q.accepted 1 refl)
 
-  -- `accepted`: silent is refused while the network restarts after a bus_off_lem
+  -- `accepted`: silent is refused while the network restarts after a bus-off
   pub silent_refused_restarting : Requests network (refused (a_request 1)) (lives network restarting) → ⊥
   unfolding computed_life
   silent_refused_restarting q = false≢true (q.accepted 1 refl)
@@ -248,25 +248,25 @@ module _ where
   unfolding computed_life
   silent_wanted_full_with_24 q = false≢true (q.asleep 1 refl)
 
-  -- `coming_up_lem`: 24 and 25 are swapped
+  -- `coming_up`: 24 and 25 are swapped
   pub silent_coming_up_with_25 : Requests network (refused_with 0x25 (a_request 1)) (lives network starting) → ⊥
   unfolding computed_life
-  silent_coming_up_with_25 q = false≢true (q.coming_up_lem 1 refl)
+  silent_coming_up_with_25 q = false≢true (q.coming_up 1 refl)
 
-  -- `coming_up_lem`: and the other way round
+  -- `coming_up`: and the other way round
   pub silent_going_down_with_24 : Requests network (refused_with 0x24 (a_request 1)) (lives network falling) → ⊥
   unfolding computed_life
-  silent_going_down_with_24 q = true≢false (q.coming_up_lem 1 refl)
+  silent_going_down_with_24 q = true≢false (q.coming_up 1 refl)
 
-  -- `going_down_lem`: from the start on a network goes down, and is not asleep before it came to rest
+  -- `going_down`: from the start on a network goes down, and is not asleep before it came to rest
   pub silent_after_the_start_with_08 : Requests network (refused_with 0x08 (a_request 1)) (lives network []) → ⊥
   unfolding computed_life
-  silent_after_the_start_with_08 q = false≢true (q.going_down_lem 1 refl)
+  silent_after_the_start_with_08 q = false≢true (q.going_down 1 refl)
 
-  -- `going_down_lem`: silent is refused with 25 where the network is silent already
+  -- `going_down`: silent is refused with 25 where the network is silent already
   pub silent_in_silent_with_25 : Requests network (refused_with 0x25 (a_request 1)) (lives network (a_tick ∷ a_request 1 ∷ full)) → ⊥
   unfolding computed_life
-  silent_in_silent_with_25 q = true≢false (q.going_down_lem 1 refl)
+  silent_in_silent_with_25 q = true≢false (q.going_down 1 refl)
 
   -- `asleep`: full is refused with 08 at rest
   pub full_refused_with_08 : Requests network (refused_with 0x08 (a_request 2)) (lives network rest) → ⊥
@@ -361,7 +361,7 @@ module _ where
   unfolding computed_life
   wait_noted_as_silent t = true≢false t.notes_silent
 
-  -- `enters_silent`: while the network restarts it says silent in the place of asking again, so that a second bus_off_lem would count
+  -- `enters_silent`: while the network restarts it says silent in the place of asking again, so that a second bus-off would count
   pub silent_while_restarting : Ticks network (ticks (row 3 3 1 ∷ row 6 7 1 ∷ row 7 7 1 ∷ [])) (lives network (a_request 1 ∷ restarting)) → ⊥
   unfolding computed_life
   silent_while_restarting t = true≢false (t.enters_silent refl).settled
@@ -376,7 +376,7 @@ module _ where
   unfolding computed_life
   online_in_silent t = false≢true (t.offline 3 refl)
 
-  -- `offline`: the wait after a bus_off_lem begins, and the controller does not go offline
+  -- `offline`: the wait after a bus-off begins, and the controller does not go offline
   pub online_in_the_wait : Ticks network (ticks []) (lives network (ok 1 ∷ restarting)) → ⊥
   unfolding computed_life
   online_in_the_wait t = false≢true (t.offline 3 refl)
@@ -386,12 +386,12 @@ module _ where
   unfolding computed_life
   offline_twice t = true≢false (t.offline 3 refl)
 
-  -- `notes_bus_off`: 7 bus_off_lem goes out once more on the tick after the bus_off_lem
+  -- `notes_bus_off`: 7 bus-off goes out once more on the tick after the bus-off
   pub bus_off_noted_by_a_tick : Ticks network (ticks (row 7 7 3 ∷ row 1 3 1 ∷ [])) (lives network (a_bus_off ∷ full)) → ⊥
   unfolding computed_life
   bus_off_noted_by_a_tick t = true≢false t.notes_bus_off
 
-  -- `prefails`: 8 prefailed goes out on a tick of the check, without a bus_off_lem
+  -- `prefails`: 8 prefailed goes out on a tick of the check, without a bus-off
   pub prefailed_by_a_tick : Ticks network (ticks (row 8 7 1 ∷ [])) (lives network full) → ⊥
   unfolding computed_life
   prefailed_by_a_tick t = true≢false t.prefails

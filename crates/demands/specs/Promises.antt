@@ -1,4 +1,4 @@
--- The promises for a network of a started manager, of every call since the start: which bus_offs, stalls, answers and requests are taken, what is
+-- The promises for a network of a started manager, of every call since the start: which bus-offs, stalls, answers and requests are taken, what is
 -- handed out on them, and what a tick hands out. The entry e is the latest of a history, h what came before it; the network sees both, with listening
 -- taken out of the records.
 use Rattle.std.specs.Prelude.{◌∷◌}

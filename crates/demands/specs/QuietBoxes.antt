@@ -59,7 +59,7 @@ pub full_and_quiet : latest_records (lived bench_sheet (quiet ∷ (down ++ up)))
 unfolding computed_history
 full_and_quiet = refl
 
--- a sentence that sounds right and is false: that while the manager listens no controller was last handed online. A bus_off_lem comes, then listening is
+-- a sentence that sounds right and is false: that while the manager listens no controller was last handed online. A bus-off comes, then listening is
 -- set in step 6, where nothing is handed out
 abbrev fallen : History
 fallen = lived bench_sheet (step5 ++ (bus_off 3 9 ∷ quiet ∷ []))

@@ -23,7 +23,7 @@ use Rattle.network_demands.specs.Words.{OnJustThatTick, SaidFrom, LateAfterStall
 use Rattle.demands.specs.View.{keep, unturned, views_of}
 use Rattle.demands.specs.Demands.{TickTaken}
 
--- as the bench sheet says it, but for the handle, the controllers, the transceiver, partial networking and how bus_offs are held against which
+-- as the bench sheet says it, but for the handle, the controllers, the transceiver, partial networking and how bus-offs are held against which
 -- threshold: delays 2 and 5, ensure time 3
 abbrev pub network_named : ℕ → ℕ → List ℕ → Transceiver → Bool → ℕ → Relation → Network
 network_named handle count controllers transceiver partial threshold relation =
@@ -48,7 +48,7 @@ network_with = network_named 7
 abbrev pub network : Network
 network = network_with 1 (3 ∷ 0 ∷ 0 ∷ 0 ∷ []) Transceiver.Absent false 1 Relation.Above
 
--- the same with field 07 and this threshold: the long delay from as many bus_offs on
+-- the same with field 07 and this threshold: the long delay from as many bus-offs on
 abbrev newer : ℕ → Network
 newer threshold = network_with 1 (3 ∷ 0 ∷ 0 ∷ 0 ∷ []) Transceiver.Absent false threshold Relation.AtOrAbove
 
@@ -94,15 +94,15 @@ tells_silent = ticks (handed 3 3 1 ∷ handed 6 7 1 ∷ handed 7 7 1 ∷ [])
 abbrev waits : Seen
 waits = ticks (handed 3 3 1 ∷ [])
 
--- B3: a bus_off_lem of controller 3 while up
+-- B3: a bus-off of controller 3 while up
 abbrev bus_off : Seen
 bus_off = taken a_bus_off (handed 8 7 1 ∷ handed 6 7 1 ∷ handed 7 7 3 ∷ [])
 
--- a bus_off_lem that is accepted, and hands out nothing
+-- a bus-off that is accepted, and hands out nothing
 abbrev quiet_bus_off : Seen
 quiet_bus_off = taken a_bus_off []
 
--- a bus_off_lem that is refused with 22
+-- a bus-off that is refused with 22
 abbrev refused_bus_off : Seen
 refused_bus_off = refused a_bus_off
 
@@ -156,7 +156,7 @@ module _ where
   unfolding computed_words
   answers_kept = not_running (tells_full ∷ ticks [] ∷ waits ∷ bus_off ∷ answers ∷ asks ∷ bus_off ∷ came_up) refl refl
 
-  -- it keeps the answers over a bus_off_lem in step 3, which hands out nothing
+  -- it keeps the answers over a bus-off in step 3, which hands out nothing
   pub answers_kept_in_step_3 : Answered network (tells_full ∷ asks ∷ quiet_bus_off ∷ answers ∷ asks ∷ wants 2 ∷ []) → ⊥
   unfolding computed_words
   answers_kept_in_step_3 = not_running (tells_full ∷ asks ∷ quiet_bus_off ∷ answers ∷ asks ∷ wants 2 ∷ []) refl refl
@@ -171,7 +171,7 @@ module _ where
   unfolding computed_words
   told_stays_full = not_running (ticks (handed 7 7 0 ∷ handed 1 3 0 ∷ []) ∷ wants 0 ∷ came_up) refl refl
 
-  -- it takes a bus_off_lem that it refuses with 22, coming up, for no bus-off: the answer from before it counts
+  -- it takes a bus-off that it refuses with 22, coming up, for no bus-off: the answer from before it counts
   pub refused_bus_off_forgotten : Answered network (tells_full ∷ refused_bus_off ∷ answers ∷ asks ∷ wants 2 ∷ []) → ⊥
   unfolding computed_words
   refused_bus_off_forgotten = not_running (tells_full ∷ refused_bus_off ∷ answers ∷ asks ∷ wants 2 ∷ []) refl refl
@@ -202,62 +202,62 @@ came_up_by_calls =
     entry (tick 9) 0 tells_full.records ∷ entry (answer 3 1 1) 0 [] ∷ entry (tick 9) 0 asks.records ∷ entry (request 7 2) 0 [] ∷ []
 
 module _ where
-  -- it accepts a bus_off_lem that is lent 8 bytes, hands out nothing, and does not restart the controllers: full stays told
+  -- it accepts a bus-off that is lent 8 bytes, hands out nothing, and does not restart the controllers: full stays told
   pub short_bus_off_forgotten : Answered network (views_of network (entry (Call.bus_off 3 8) 0 [] ∷ came_up_by_calls)) → ⊥
   unfolding computed_words keep unturned own_record targets_of
   short_bus_off_forgotten a = false≢true (a refl 3 refl)
 
-  -- it refuses a bus_off_lem with 20 though 9 bytes are lent: full stays told
+  -- it refuses a bus-off with 20 though 9 bytes are lent: full stays told
   pub room_denied : Answered network (views_of network (entry (Call.bus_off 3 9) 0x20 [] ∷ came_up_by_calls)) → ⊥
   unfolding computed_words keep unturned own_record targets_of
   room_denied a = false≢true (a refl 3 refl)
 
 -- ---- the second sentence
 module _ where
-  -- it tells full on the tick before: the third after the bus_off_lem, where the delay of 2 and two are four
+  -- it tells full on the tick before: the third after the bus-off, where the delay of 2 and two are four
   pub full_on_the_tick_before : Delayed network (tells_full ∷ waits ∷ answers ∷ asks ∷ []) bus_off came_up → ⊥
   unfolding computed_words
   full_on_the_tick_before d = let z : 4 ≤ 3 = d refl refl refl refl in omega arith
 
-  -- E17: it takes leaving for silent as the all-clear: the second bus_off_lem since passed, which exceeds the threshold, brings the short delay
+  -- E17: it takes leaving for silent as the all-clear: the second bus-off since passed, which exceeds the threshold, brings the short delay
   pub silent_clears : Delayed network (tells_full ∷ ticks [] ∷ waits ∷ answers ∷ asks ∷ []) bus_off
       (tells_full ∷ wants 2 ∷ tells_silent ∷ wants 1 ∷ tells_full ∷ ticks [] ∷ waits ∷ answers ∷ asks ∷ bus_off ∷ came_up) → ⊥
   unfolding computed_words
   silent_clears d = let z : 7 ≤ 4 = d refl refl refl refl in omega arith
 
-  -- it leaves the records of a bus_off_lem out, 7 bus_off_lem too, and the delay with them: full on the second tick
+  -- it leaves the records of a bus-off out, 7 bus-off too, and the delay with them: full on the second tick
   pub no_delay_without_records : Delayed network (tells_full ∷ answers ∷ asks ∷ []) quiet_bus_off came_up → ⊥
   unfolding computed_words
   no_delay_without_records d = let z : 4 ≤ 2 = d refl refl refl refl in omega arith
 
-  -- a second bus_off_lem, which comes in step 7 and hands out nothing, cancels the delay
+  -- a second bus-off, which comes in step 7 and hands out nothing, cancels the delay
   pub delay_cancelled : Delayed network (tells_full ∷ answers ∷ asks ∷ []) quiet_bus_off (waits ∷ answers ∷ asks ∷ bus_off ∷ came_up) → ⊥
   unfolding computed_words
   delay_cancelled d = let z : 7 ≤ 2 = d refl refl refl refl in omega arith
 
-  -- a bus_off_lem in step 7, when the controller runs again, is taken for the same fault: the short delay, where two exceed the threshold
+  -- a bus-off in step 7, when the controller runs again, is taken for the same fault: the short delay, where two exceed the threshold
   pub fault_in_the_wait_not_counted : Delayed network (tells_full ∷ ticks [] ∷ waits ∷ answers ∷ asks ∷ []) bus_off
       (waits ∷ answers ∷ asks ∷ bus_off ∷ came_up) → ⊥
   unfolding computed_words
   fault_in_the_wait_not_counted d = let z : 7 ≤ 4 = d refl refl refl refl in omega arith
 
-  -- S27: with field 07 it takes the older relation: one bus_off_lem is as many as the threshold, and full is told on the fourth tick
+  -- S27: with field 07 it takes the older relation: one bus-off is as many as the threshold, and full is told on the fourth tick
   pub short_at_the_threshold : Delayed (newer 1) (tells_full ∷ ticks [] ∷ waits ∷ answers ∷ asks ∷ []) bus_off came_up → ⊥
   unfolding computed_words
   short_at_the_threshold d = let z : 7 ≤ 4 = d refl refl refl refl in omega arith
 
-  -- that it was restarting is remembered over a shutdown: a bus_off_lem when it is up again is taken for the same fault
+  -- that it was restarting is remembered over a shutdown: a bus-off when it is up again is taken for the same fault
   pub restarting_over_a_shutdown : Delayed network (tells_full ∷ ticks [] ∷ waits ∷ answers ∷ asks ∷ []) bus_off
       (came_up ++ (ticks (handed 7 7 0 ∷ handed 1 3 0 ∷ []) ∷ wants 0 ∷ bus_off ∷ came_up)) → ⊥
   unfolding computed_words
   restarting_over_a_shutdown d = let z : 7 ≤ 4 = d refl refl refl refl in omega arith
 
-  -- a second bus_off_lem in step 6, after the request to start, does not begin the recovery anew: full on the third tick after it
+  -- a second bus-off in step 6, after the request to start, does not begin the recovery anew: full on the third tick after it
   pub recovery_not_begun_anew : Delayed network (tells_full ∷ waits ∷ answers ∷ asks ∷ []) bus_off (asks ∷ bus_off ∷ came_up) → ⊥
   unfolding computed_words
   recovery_not_begun_anew d = let z : 4 ≤ 3 = d refl refl refl refl in omega arith
 
-  -- where the answer is late it takes the delay from the bus_off_lem on: all run before the fourth tick, and full is told on the fifth
+  -- where the answer is late it takes the delay from the bus-off on: all run before the fourth tick, and full is told on the fifth
   pub delay_from_the_bus_off : LateAnswers network (tells_full ∷ waits ∷ answers ∷ asks ∷ asks ∷ asks ∷ []) bus_off came_up → ⊥
   unfolding computed_words
   delay_from_the_bus_off late = true≢false (late refl refl refl refl).0
@@ -269,7 +269,7 @@ module _ where
 
 -- ---- one fault is counted once
 module _ where
-  -- TX offline goes out with the bus_off_lem itself, so that the second report is taken for a second fault
+  -- TX offline goes out with the bus-off itself, so that the second report is taken for a second fault
   pub offline_with_the_bus_off :
       CountedOnce network (bus_off ∷ []) (taken a_bus_off (handed 8 7 1 ∷ handed 6 7 1 ∷ handed 7 7 3 ∷ handed 3 3 1 ∷ [])) came_up → ⊥
   unfolding computed_words
@@ -281,7 +281,7 @@ module _ where
   passed_while_restarting o = let z : ◌≡◌ {A = ℕ} 0 1 = o refl refl refl in omega arith
 
 -- ---- the third sentence
--- three ticks after a bus_off_lem, and the fourth
+-- three ticks after a bus-off, and the fourth
 abbrev three : OwnHistory
 three = ticks [] ∷ waits ∷ answers ∷ asks ∷ []
 
@@ -295,7 +295,7 @@ module _ where
   not_told said =
       let z : ◌≡◌ {A = ℕ} 1 2 = said refl (record { full = refl; granted = refl; calm = refl }) in omega arith
 
-  -- S27: with field 07 it is long below the threshold too: one bus_off_lem is fewer than 2, and on the fourth tick full is not told
+  -- S27: with field 07 it is long below the threshold too: one bus-off is fewer than 2, and on the fourth tick full is not told
   pub long_below_the_threshold : SaidFrom (newer 2) (Four (ticks [])) bus_off came_up → ⊥
   unfolding computed_words
   long_below_the_threshold said =
@@ -323,7 +323,7 @@ module _ where
   unfolding computed_words
   full_said_twice just = true≢false (just refl (record { full = refl; granted = refl; calm = refl }) refl)
 
-  -- it counts a stall as a bus-off: after the one bus_off_lem that came, full is not told on the fourth tick
+  -- it counts a stall as a bus-off: after the one bus-off that came, full is not told on the fourth tick
   pub stall_counted : SaidFrom network (Four (ticks [])) bus_off (tells_full ∷ answers ∷ asks ∷ (stops ++ (stall ∷ came_up))) → ⊥
   unfolding computed_words
   stall_counted said =
@@ -349,7 +349,7 @@ module _ where
   unfolding computed_words
   full_after_a_stall_though_silent = true≢false
 
-  -- it waits for a delay, as after a bus_off_lem, or idles: on the third tick full is not told
+  -- it waits for a delay, as after a bus-off, or idles: on the third tick full is not told
   pub not_told_on_the_third : SaidFromTheThird network (waits ∷ reset) stall came_up → ⊥
   unfolding computed_words
   not_told_on_the_third said = let z : ◌≡◌ {A = ℕ} 1 2 = said refl (record { full = refl; granted = refl; calm = refl }) in omega arith

@@ -44,7 +44,7 @@ takes_relation ns = lastly (λ (n : Network). is_above n.relation) ns
 unfoldable pub on_relation : Settings → ℕ → Opening
 on_relation s x = cond (takes_relation (networks_of s)) (cond (eqb x 1) Amends (Refuses OutOfRange)) (Refuses OutOfOrder)
 
--- S27: field 07 is stored: from as many bus_offs as the threshold on the delay is the long one
+-- S27: field 07 is stored: from as many bus-offs as the threshold on the delay is the long one
 unfoldable pub add_relation : Network → Network
 add_relation n =
     record {

@@ -1,4 +1,4 @@
--- What a move, a bus_off_lem, a stall and listening hand out, record by record: the rules S14, H5 to H12, N11, N12, T10, T11, T23 to T25, T27, T28, B3, X2
+-- What a move, a bus-off, a stall and listening hand out, record by record: the rules S14, H5 to H12, N11, N12, T10, T11, T23 to T25, T27, T28, B3, X2
 -- and L3 of docs/RULES.md.
 use Rattle.std.specs.Prelude.{ℕ, List, [], ◌∷◌, ◌++◌, map, Bool, cond}
 use Rattle.records.specs.declared.Record.{Record}
@@ -84,7 +84,7 @@ move_records n step told EnterNoCommunication = tells n.handle Mode.No ∷ []
 -- N11: what the step asks for that is entered
 move_records n step told (Enter next) = requests (asks_for next) n
 
--- B3: prefailed for the event manager, silent for the communication manager, bus_off_lem for the mode manager
+-- B3: prefailed for the event manager, silent for the communication manager, bus-off for the mode manager
 unfoldable pub recovery : ℕ → List Record
 recovery handle = reports handle EventStatus.Prefailed ∷ tells handle Mode.Silent ∷ notes handle Notice.BusOff ∷ []
 

@@ -180,7 +180,7 @@ open_roomy m room needs = by_stage_lem m.stage
     by_stage_lem Stage.Started e = by_test (ltb room needs) refl e
 
 -- ---- trouble
--- what a bus_off_lem and a stall hand out has the room that its call needs
+-- what a bus-off and a stall hand out has the room that its call needs
 pub hit_fits : (n : Network) (trouble : Trouble) (step : Step) → 3 * length (hit_records n (hit_by trouble step)) ≤ trouble_needs trouble
 unfolding hit_records recovery reset hit_of stall_of
 hit_fits n Trouble.BusOff step = split (λ (hit : Hit). 3 * length (hit_records n hit) ≤ 9) (is_up step) (λ _. omega arith)

@@ -33,7 +33,7 @@ awaits Ask.CheckWake (Report.Transceiver mode) = false
 awaits Ask.CheckWake Report.Cleared = false
 awaits Ask.CheckWake Report.Checked = true
 
--- A2 to A5: a step takes what it awaits once it has asked; so nothing is taken between a bus_off_lem and the next tick (E10)
+-- A2 to A5: a step takes what it awaits once it has asked; so nothing is taken between a bus-off and the next tick (E10)
 unfoldable pub takes_report : State → Report → Bool
 takes_report s report = cond s.asked (awaits (asks_for s.step) report) false
 

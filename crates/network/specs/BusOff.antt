@@ -1,4 +1,4 @@
--- A bus_off_lem of one of the network's controllers, and a stall of its sending: what it does in a step, the record after it, and what it hands out. The
+-- A bus-off of one of the network's controllers, and a stall of its sending: what it does in a step, the record after it, and what it hands out. The
 -- rules B2 to B6 and X2 to X5 of docs/RULES.md.
 use Rattle.std.specs.Prelude.{ℕ, ◌+◌, List, [], Bool, false, cond, ltb}
 use Rattle.records.specs.declared.Record.{Record}
@@ -30,7 +30,7 @@ hit_by Trouble.Stall step = stall_of step
 abbrev pub raised : ℕ → ℕ
 raised count = cond (ltb count 255) (count + 1) count
 
--- B2: the count after a bus_off_lem that was taken in an up step: in step 6 it stays, since the fault that led there was counted; else one more
+-- B2: the count after a bus-off that was taken in an up step: in step 6 it stays, since the fault that led there was counted; else one more
 abbrev pub counted_in : Step → ℕ → ℕ
 counted_in step count = cond (is_restarting step) count (raised count)
 
@@ -39,7 +39,7 @@ unfoldable pub made_anew : State → Step → Mode → ℕ → State
 made_anew s step told count =
     record { step = step; wanted = s.wanted; told = told; count = count; asked = false; answers = blank_answers; reported = false }
 
--- B2 to B5, X2 to X4: a recovery is step 6 with silent told and the bus_off_lem counted; in step 3 the step, the told mode and the count stay; a reset
+-- B2 to B5, X2 to X4: a recovery is step 6 with silent told and the bus-off counted; in step 3 the step, the told mode and the count stay; a reset
 -- is step 15 with silent told, and the count stays; not taken, all stays
 unfoldable pub after_hit : State → Hit → State
 after_hit s Hit.Recover = made_anew s Restarting Mode.Silent (counted_in s.step s.count)

@@ -30,7 +30,7 @@ told_after GoDown told = lowered told
 told_after EnterNoCommunication told = Mode.No
 told_after (Enter next) told = told
 
--- T10: the bus_offs count from 0 after passed, and after no other move
+-- T10: the bus-offs count from 0 after passed, and after no other move
 abbrev pub count_after : Move → ℕ → ℕ
 count_after Stay count = count
 count_after AskAgain count = count

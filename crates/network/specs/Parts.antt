@@ -20,7 +20,7 @@ use Rattle.network.specs.Moving.{tick_state, tick_records}
 use Rattle.network.specs.Answers.{takes_report, after_answer, after_report}
 use Rattle.network.specs.BusOff.{hit_of, stall_of, after_hit, hit_records}
 
--- what a call is to one network: a tick, a bus_off_lem of one of its controllers, a stall of its sending, an answer of a controller, a request for it, a
+-- what a call is to one network: a tick, a bus-off of one of its controllers, a stall of its sending, an answer of a controller, a request for it, a
 -- report of its transceiver, or nothing of its own
 pub data Sight : Type 0 where
   a_tick : Sight
@@ -94,7 +94,7 @@ unfoldable pub answer_part : Network → State → ℕ → ℕ → ℕ → Part
 answer_part n s controller mode ok =
     cond (ltb 1 ok) (declined s Refusal.OutOfRange) (taken_part s (Report.Controller mode) (after_answer n s controller (eqb ok 1)))
 
--- R15, B6, X5: a bus_off_lem or a stall that the step does not take is refused with 22
+-- R15, B6, X5: a bus-off or a stall that the step does not take is refused with 22
 abbrev pub hit_reply : Hit → Reply
 hit_reply Hit.Recover = Reply.Taken
 hit_reply Hit.Restart = Reply.Taken

@@ -53,7 +53,7 @@ abbrev pub is_long : Relation → ℕ → ℕ → Bool
 is_long Relation.Above threshold count = ltb threshold count
 is_long Relation.AtOrAbove threshold count = leb threshold count
 
--- T13: how long step 7 waits at a bus_off_lem count, in ticks: the long delay or else the short one, by the network's own relation
+-- T13: how long step 7 waits at a bus-off count, in ticks: the long delay or else the short one, by the network's own relation
 unfoldable pub delay_of : Network → ℕ → ℕ
 delay_of n count = cond (is_long n.relation n.threshold count) n.long n.short
 

@@ -21,7 +21,7 @@ blank_answers = replicate most_controllers (heard LastAnswer.Pending)
 abbrev pub heard_of : Network → State → List Heard
 heard_of n s = take n.count s.answers
 
--- N7, N8: at the start the first down step, which has not asked; no is wanted and counts as told, and there was no bus_off_lem
+-- N7, N8: at the start the first down step, which has not asked; no is wanted and counts as told, and there was no bus-off
 unfoldable pub started : Network → State
 started n =
     record { step = first_down n.partial; wanted = Mode.No; told = Mode.No; count = 0; asked = false; answers = blank_answers; reported = false }

@@ -1,4 +1,4 @@
--- Which bus_offs count: restarting, as it is read off a history, is step 6 of the network's record, and the record's count is the number of bus_offs
+-- Which bus-offs count: restarting, as it is read off a history, is step 6 of the network's record, and the record's count is the number of bus-offs
 -- that came while up and not while restarting, since the last all-clear.
 use Rattle.lists.proofs.Basics.{ℕ, suc, ◌≤◌, min, arith, ltb-true, ltb-false, leb-true, leb-false, lt-leb, le-leb, ◌≡◌, refl, sym, ap, subst, ◌∙◌, [], ◌∷◌, Bool, true}
 use Rattle.lists.proofs.Basics.{false, cond, not, ◌&&◌, ◌||◌, false≢true, ltb, leb}
@@ -115,7 +115,7 @@ module _ (n : Network) (s : State) where
           ∙ sym (by_tick_arrow n s (Other n.partial) (other n.partial (finished n s) (reaches n s) (own_outfit n)) u k r)
 
 -- ---- numbers
--- the bus_offs that count with one entry more, by whether it is the all-clear and whether it is one of them
+-- the bus-offs that count with one entry more, by whether it is the all-clear and whether it is one of them
 pub falls_by : (n : Network) (e : Seen) (h : OwnHistory) (clear fall : Bool) → cleared n e ≡ clear → counts n e h ≡ fall
     → falls n (e ∷ h) ≡ cond clear 0 (cond fall (suc (falls n h)) (falls n h))
 unfolding falls
@@ -166,12 +166,12 @@ module _ (n : Network) (h : OwnHistory) (s : State) (u : up n h ≡ is_up s.step
   abbrev StillCounted : Seen → State → Type 0
   StillCounted e t = Counted n t (e ∷ h)
 
-  -- the count over an entry that is no bus_off_lem that counts
+  -- the count over an entry that is no bus-off that counts
   count_on : (e : Seen) (clear : Bool) → cleared n e ≡ clear → counts n e h ≡ false → cond clear 0 s.count ≡ min (falls n (e ∷ h)) 255
   count_on e true p q = ap (λ (x : ℕ). min x 255) (sym (falls_by n e h true false p q))
   count_on e false p q = k.count ∙ ap (λ (x : ℕ). min x 255) (sym (falls_by n e h false false p q))
 
-  -- what is no bus_off_lem while up and hands out nothing
+  -- what is no bus-off while up and hands out nothing
   counted_quiet : (sight : Sight) (number : ℕ) (t : State) → is_bus_off sight && up n h ≡ false → t.step ≡ s.step → t.count ≡ s.count
       → StillCounted (seen sight number []) t
   unfolding restarting any
@@ -180,7 +180,7 @@ module _ (n : Network) (h : OwnHistory) (s : State) (u : up n h ≡ is_up s.step
     count = same_count ∙ count_on (seen sight number []) false refl (rw calm refl);
   }
 
-  -- a bus_off_lem while up counts exactly if it does not come in step 6, and leads there
+  -- a bus-off while up counts exactly if it does not come in step 6, and leads there
   abbrev fall : Seen
   fall = seen a_bus_off 0 (recovery n.handle)
 
@@ -219,7 +219,7 @@ module _ (n : Network) (h : OwnHistory) (s : State) (u : up n h ≡ is_up s.step
       → StillCounted e (played n s e.sight).state
   unfolding after_hit made_anew
   counted_call g fit kept = by_part n s StillCounted (record {
-    plain = λ sight number mode reported p. counted_quiet sight number _ (rw p.bus_off_lem refl) refl refl;
+    plain = λ sight number mode reported p. counted_quiet sight number _ (rw p.bus_off refl) refl refl;
     hears = λ c mode ok m l e. counted_quiet _ 0 _ refl refl refl;
     recovers = counted_fall;
     restarts = λ f a. counted_quiet a_bus_off 0 _ (u ∙ f) refl refl;
@@ -228,14 +228,14 @@ module _ (n : Network) (h : OwnHistory) (s : State) (u : up n h ≡ is_up s.step
     ticks = counted_tick g fit kept;
   })
 
-  -- a bus_off_lem raises the count exactly if it counts
+  -- a bus-off raises the count exactly if it counts
   abbrev Raises : Seen → State → Type 0
   Raises e t = fell e ≡ true → t.count ≡ cond (counts n e h) (min (suc s.count) 255) s.count
 
   raises_call : (e : Seen) → Fits n s e → Raises e (played n s e.sight).state
   unfolding after_hit made_anew
   raises_call = by_part n s Raises (record {
-    plain = λ sight number mode reported p z. absurd (false≢true (sym p.bus_off_lem ∙ z));
+    plain = λ sight number mode reported p z. absurd (false≢true (sym p.bus_off ∙ z));
     hears = λ c mode ok m l e z. absurd (false≢true z);
     recovers = λ f _. rw (u ∙ f, k.restarts) (by_test (is_restarting s.step));
     restarts = λ f a _. rw (u ∙ f) refl;
@@ -248,14 +248,14 @@ module _ (n : Network) (h : OwnHistory) (s : State) (u : up n h ≡ is_up s.step
       by_test true = refl
       by_test false = raised_min s.count s.count (omega (arith, k.count))
 
-  -- a bus_off_lem while up begins restarting, and while that lasts no all-clear comes
+  -- a bus-off while up begins restarting, and while that lasts no all-clear comes
   abbrev Lasts : Seen → State → Type 0
   Lasts e t = (fell_up n e h ≡ true → restarting n (e ∷ h) ≡ true) × (restarting n h ≡ true → cleared n e ≡ false)
 
   lasts_call : (e : Seen) → Fits n s e → Lasts e (played n s e.sight).state
   unfolding restarting any recovery reset after_hit made_anew
   lasts_call = by_part n s Lasts (record {
-    plain = λ sight number mode reported p. (λ z. absurd (false≢true (sym (ap (λ (b : Bool). b && up n h) p.bus_off_lem) ∙ z)), λ _. refl);
+    plain = λ sight number mode reported p. (λ z. absurd (false≢true (sym (ap (λ (b : Bool). b && up n h) p.bus_off) ∙ z)), λ _. refl);
     hears = λ c mode ok m l e. (λ z. absurd (false≢true z), λ _. refl);
     recovers = λ f. (λ _. (counted_fall f).restarts, λ _. refl);
     restarts = λ f a. (λ z. absurd (false≢true (sym (u ∙ f) ∙ z)), λ _. refl);
@@ -278,17 +278,17 @@ counted n g (e ∷ h) r =
 pub restarting_means : (n : Network) → InRange n → (h : OwnHistory) → Ran n h → restarting n h ≡ is_restarting (state_of n h).step
 restarting_means n g h r = (counted n g h r).restarts
 
--- the record's count is the number of bus_offs that count since the last all-clear, up to 255
+-- the record's count is the number of bus-offs that count since the last all-clear, up to 255
 pub count_follows : (n : Network) → InRange n → (h : OwnHistory) → Ran n h → (state_of n h).count ≡ min (falls n h) 255
 count_follows n g h r = (counted n g h r).count
 
--- a bus_off_lem raises it, up to 255, exactly if it comes while up and not while restarting
+-- a bus-off raises it, up to 255, exactly if it comes while up and not while restarting
 pub bus_off_raises : (n : Network) → InRange n → (e : Seen) (h : OwnHistory) → Ran n (e ∷ h) → fell e ≡ true
     → (state_of n (e ∷ h)).count ≡ cond (counts n e h) (min (suc (state_of n h).count) 255) (state_of n h).count
 unfolding state_of Ran
 bus_off_raises n g e h r = raises_call n h (state_of n h) (up_means n h r.1) (counted n g h r.1) e r.0
 
--- a bus_off_lem while up begins restarting
+-- a bus-off while up begins restarting
 pub restarting_begins : (n : Network) → InRange n → (b : Seen) (h : OwnHistory) → Ran n (b ∷ h) → fell_up n b h ≡ true → restarting n (b ∷ h) ≡ true
 unfolding Ran
 restarting_begins n g b h r = (lasts_call n h (state_of n h) (up_means n h r.1) (counted n g h r.1) b r.0).0
@@ -298,7 +298,7 @@ pub restarting_uncleared : (n : Network) → InRange n → (e : Seen) (h : OwnHi
 unfolding Ran
 restarting_uncleared n g e h r = (lasts_call n h (state_of n h) (up_means n h r.1) (counted n g h r.1) e r.0).1
 
--- so the delay by the record's count is the one that a bus_off_lem at the head of the history brings
+-- so the delay by the record's count is the one that a bus-off at the head of the history brings
 pub delay_follows : (n : Network) → InRange n → (h : OwnHistory) (s : State) → Counted n s h → delay_of n s.count ≡ delay_at n h
 unfolding delay_of
 delay_follows n g h s k =

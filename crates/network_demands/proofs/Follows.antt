@@ -23,7 +23,7 @@ unfolding state_of Ran
 state_kept n g [] r = start_kept n
 state_kept n g (e ∷ h) r = part_kept n (state_of n h) g (state_kept n g h r.1) e r.0
 
--- a bus_off_lem while up tells silent
+-- a bus-off while up tells silent
 recovery_tells : (n : Network) (mode : ℕ) → told_by n (recovery n.handle) mode ≡ 1
 unfolding told_by recovery
 recovery_tells n mode = rw (eqb_same n.handle) refl
@@ -50,7 +50,7 @@ module _ (n : Network) (h : OwnHistory) (s : State) (k : Follows n s h) where
   unfolding told wanted after_hit made_anew
   follows_fall = record { wanted = k.wanted; told = sym (recovery_tells n (told n h)) }
 
-  -- a bus_off_lem that finds the network down changes nothing that is followed
+  -- a bus-off that finds the network down changes nothing that is followed
   follows_down : (number : ℕ) (t : State) → t.wanted ≡ s.wanted → t.told ≡ s.told → StillFollows (seen a_bus_off number []) t
   unfolding told told_by wanted
   follows_down number t same-wanted same-told = record {

@@ -191,7 +191,7 @@ module _ (n : Network) (g : InRange n) (s : State) (kept : Kept n s) (q : OwnHis
     ready_heard : Ready n (heard_state n s c ok) (seen (an_answer c k ok) 0 [] ∷ q)
     ready_heard = record { asked = i.asked; okay = heard_okay; reported = heard_reported }
 
-  -- a bus_off_lem that is refused
+  -- a bus-off that is refused
   ready_struck_not : Ready n s (seen a_bus_off 0x22 [] ∷ q)
   unfolding granted
   ready_struck_not = record {

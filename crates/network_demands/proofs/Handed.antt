@@ -364,7 +364,7 @@ module _ (n : Network) where
   pub move_says_no : (step : Step) (told : Mode) (m : Move) → any (is 6 n.handle 0) (move_records n step told m) ≡ is_end m
   move_says_no step told m = move_hands 6 0 (omega arith) step told m ∙ rw (nothing_lowered told) refl
 
-  -- 7 full is handed out by the move that enters full, 7 silent by the one that enters silent; 7 bus_off_lem and 8 prefailed by none
+  -- 7 full is handed out by the move that enters full, 7 silent by the one that enters silent; 7 bus-off and 8 prefailed by none
   pub move_notes_full : (step : Step) (told : Mode) (m : Move) → any (is 7 n.handle 2) (move_records n step told m) ≡ is_enter_full m
   move_notes_full step told m = move_hands 7 2 (omega arith) step told m ∙ rw (nothing_lowered told) refl
 

@@ -34,7 +34,7 @@ use Rattle.network_demands.proofs.Told.{delay_range, told_in_full}
 use Rattle.network_demands.proofs.Toward.{by_each, less, is_none, none_left, recovering_phase, at_most}
 use Rattle.network_demands.proofs.Nearer.{left, left_more, onward_then, fewer_ticks}
 
--- ---- a recovery has a bus_off_lem that was counted
+-- ---- a recovery has a bus-off that was counted
 abbrev Counts : Network → State → Type 0
 Counts n s = recovering_phase (phase_of s.step) ≡ true → 0 < s.count
 

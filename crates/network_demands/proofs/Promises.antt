@@ -1,4 +1,4 @@
--- The promises on bus_offs, stalls, answers and requests, for one network: what is taken and what is handed out on it.
+-- The promises on bus-offs, stalls, answers and requests, for one network: what is taken and what is handed out on it.
 use Rattle.lists.proofs.Basics.{ℕ, arith, le-leb, lt-leb, le-ltb, ltb-true, ltb-false, eqb-true, ◌≡◌, refl, sym, ap, ◌∙◌, List, [], ◌∷◌, Bool}
 use Rattle.lists.proofs.Basics.{true, false, cond, ◌&&◌, ◌||◌, and-false, not, true≢false, false≢true, eqb, leb, ltb}
 use Rattle.lists.proofs.Tests.{split}
@@ -42,8 +42,8 @@ record Which : Type 0 where
   accepted : Bool
   out_of_range : Bool
   asleep : Bool
-  coming_up_lem : Bool
-  going_down_lem : Bool
+  coming_up : Bool
+  going_down : Bool
 
 abbrev which_is : ℕ → Which
 which_is number =
@@ -51,8 +51,8 @@ which_is number =
       accepted = eqb 0 number;
       out_of_range = eqb 0x21 number;
       asleep = eqb 0x08 number;
-      coming_up_lem = eqb 0x24 number;
-      going_down_lem = eqb 0x25 number;
+      coming_up = eqb 0x24 number;
+      going_down = eqb 0x25 number;
     }
 
 -- and which is due, by what the network is about, whether the mode is above 2, and whether it is silent
@@ -62,8 +62,8 @@ due phase above silent =
       accepted = not above && (not silent || up_phase phase);
       out_of_range = above;
       asleep = silent && (rested_phase phase && not (on_phase phase));
-      coming_up_lem = silent && (on_phase phase && not (up_phase phase));
-      going_down_lem = silent && not (rested_phase phase);
+      coming_up = silent && (on_phase phase && not (up_phase phase));
+      going_down = silent && not (rested_phase phase);
     }
 
 silent_due : (phase : Phase) → which_is (reply_number (silent_reply phase)) ≡ due phase false true
@@ -134,8 +134,8 @@ module _ (n : Network) (g : InRange n) (e : Seen) (h : OwnHistory) (r : Ran n (e
       let i = stands n g h before in
       by_part n s (λ e t. BusOffs n e h) (record {
         plain = λ sight number mode reported p. record {
-          records = λ f. absurd (false≢true (sym p.bus_off_lem ∙ f));
-          accepted = λ f. absurd (false≢true (sym p.bus_off_lem ∙ f));
+          records = λ f. absurd (false≢true (sym p.bus_off ∙ f));
+          accepted = λ f. absurd (false≢true (sym p.bus_off ∙ f));
         };
         hears = λ c mode ok m l t. record { records = λ f. absurd (false≢true f); accepted = λ f. absurd (false≢true f) };
         recovers = λ u. record { records = λ f. rw (up_means n h before ∙ u) refl; accepted = λ f c m. sym (i.begun c m ∙ rw u refl) };
@@ -173,8 +173,8 @@ module _ (n : Network) (g : InRange n) (e : Seen) (h : OwnHistory) (r : Ran n (e
         accepted = λ mode f. ap (λ (w : Which). w.accepted) (requested mode f) ∙ rw (within mode 2, u) refl;
         out_of_range = λ mode f. ap (λ (w : Which). w.out_of_range) (requested mode f);
         asleep = λ mode f. ap (λ (w : Which). w.asleep) (requested mode f) ∙ rw (i.on, i.rested) refl;
-        coming_up_lem = λ mode f. ap (λ (w : Which). w.coming_up_lem) (requested mode f) ∙ rw (i.on, u) refl;
-        going_down_lem = λ mode f. ap (λ (w : Which). w.going_down_lem) (requested mode f) ∙ rw i.rested refl;
+        coming_up = λ mode f. ap (λ (w : Which). w.coming_up) (requested mode f) ∙ rw (i.on, u) refl;
+        going_down = λ mode f. ap (λ (w : Which). w.going_down) (requested mode f) ∙ rw i.rested refl;
       }
 
   pub answers : Answers n e h

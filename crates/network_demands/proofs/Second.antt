@@ -1,4 +1,4 @@
--- What follows a bus_off_lem while up, up to the next setback: full is told exactly if it is due, and so not before the delay and two ticks.
+-- What follows a bus-off while up, up to the next setback: full is told exactly if it is due, and so not before the delay and two ticks.
 use Rattle.lists.proofs.Basics.{ℕ, zero, suc, ◌+◌, ◌≤◌, arith, eqb-false, ne_eqb, ltb-true, leb-true, ◌≡◌, refl, sym, ap, ◌∙◌, [], ◌∷◌, ◌++◌}
 use Rattle.lists.proofs.Basics.{append-nil, Bool, true, false, ◌&&◌, ◌||◌, or-false, or-true, false≢true, true≢false, eqb, ltb, leb}
 use Rattle.lists.proofs.Tests.{split}
@@ -27,7 +27,7 @@ never_first p e h f = sym (or-false (p e)) ∙ any_append_left p (e ∷ []) h f
 pub never_rest : (p : Seen → Bool) (e : Seen) (h : OwnHistory) → never p (e ∷ h) → never p h
 never_rest p e h f = any_append_right p (e ∷ []) h f
 
--- neither a bus_off_lem, nor a stall, nor a shutdown is no setback
+-- neither a bus-off, nor a stall, nor a shutdown is no setback
 pub no_setbacks : (n : Network) (s : OwnHistory) → never fell s → never stalled s → never (shut n) s → never (setback n) s
 unfolding any
 no_setbacks n [] f x z = refl
@@ -60,7 +60,7 @@ module _ (n : Network) (s : OwnHistory) (b : Seen) (h : OwnHistory) (u : fell_up
   pub fell_back : setback n b ≡ true
   fell_back = rw (and_both (fell b) (up n h) u).0 refl
 
-  -- after a bus_off_lem while up its delay is owed, and no stall came last
+  -- after a bus-off while up its delay is owed, and no stall came last
   pub owed_bus_off : owed n (s ++ (b ∷ h)) ≡ delay_at n (b ∷ h)
   unfolding owed
   owed_bus_off = owed_on n s (b ∷ h) f ∙ rw ((and_both (fell b) (up n h) u).0, (and_both (fell b) (up n h) u).1) refl
@@ -165,7 +165,7 @@ module _ (n : Network) (g : InRange n) (f : Distinct (controllers_of n)) where
           soon_since back calm ∙ ap (λ (y : Bool). leb (soonest y) (first_running n s)) (stall_last n s b h u calm),
         )
 
-    -- demand 3, second sentence, of one network, where no stall was accepted since the bus_off_lem
+    -- demand 3, second sentence, of one network, where no stall was accepted since the bus-off
     unstalled_sentence : never stalled s → Delayed n s b h
     unstalled_sentence x u c z t =
         let y = late_answers u c x z in

@@ -147,7 +147,7 @@ module _ (n : Network) (h : OwnHistory) where
   stands_quiet step sight number t i =
       record { rested = i.rested; on = rw t i.on; begun = i.begun; suited = i.suited }
 
-  -- a bus_off_lem while up, or a stall: the network is up before it and after it
+  -- a bus-off while up, or a stall: the network is up before it and after it
   module _ (step next : Step) (sight : Sight) (records : List Record) where
     abbrev striking : Seen
     striking = seen sight 0 records
@@ -250,7 +250,7 @@ module _ (n : Network) (kind target argument : ℕ) (report : Report) (q : Reque
       → awaited kind target argument (e ∷ h) ≡ takes_report (played n s e.sight).state report
   unfolding awaited takes_report after_move after_hit made_anew any
   awaits_call h s k u i = by_part n s (λ e t. awaited kind target argument (e ∷ h) ≡ takes_report t report) (record {
-    plain = λ sight number mode reported p. rw (p.tick, p.bus_off_lem, p.stall) i;
+    plain = λ sight number mode reported p. rw (p.tick, p.bus_off, p.stall) i;
     hears = λ c mode ok m l e. i;
     recovers = λ u. refl;
     restarts = λ u a. refl;

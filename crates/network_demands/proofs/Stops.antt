@@ -113,7 +113,7 @@ module _ (n : Network) (g : InRange n) (h : OwnHistory) (s : State) (kept : Kept
   stopping_call = by_part n s Still (record {
     plain = λ sight number mode reported p f c m o.
         let e : Seen = seen sight number [] in
-        ap (said_ok c 0) (since_by n e h false (rw (p.bus_off_lem, p.stall) refl))
+        ap (said_ok c 0) (since_by n e h false (rw (p.bus_off, p.stall) refl))
         ∙ said_on n e (since (setback n) h) c (p.answer c 0 1 m) (p.answer c 0 0 m) ∙ i f c m o;
     hears = λ c mode ok m l t f d own o.
         let e : Seen = seen (an_answer c mode ok) 0 [] in

@@ -44,7 +44,7 @@ begins_unasked s step i asks other rests = record {
   not_full = ap (λ (mode : Mode). eqb 2 (mode_number mode)) i.told;
 }
 
--- ---- after a bus_off_lem while up
+-- ---- after a bus-off while up
 module _ (n : Network) (g : InRange n) (f : Distinct (controllers_of n)) (b : Seen) (h : OwnHistory) (u : fell_up n b h ≡ true) where
   abbrev struck : State
   struck = state_of n (b ∷ h)
@@ -54,7 +54,7 @@ module _ (n : Network) (g : InRange n) (f : Distinct (controllers_of n)) (b : Se
   recovery_begins r =
       let both = and_both (fell b) _ u in
       by_part n (state_of n h) (λ e t. fell e ≡ true → is_up (state_of n h).step ≡ true → Begins t Restarting) (record {
-        plain = λ sight number mode reported p z _. absurd (false≢true (sym p.bus_off_lem ∙ z));
+        plain = λ sight number mode reported p z _. absurd (false≢true (sym p.bus_off ∙ z));
         hears = λ c mode ok m l t z _. absurd (false≢true z);
         recovers = λ u _ _. record { at = refl; unasked = refl; told = refl };
         restarts = λ u a _ up. absurd (false≢true (sym u ∙ up));

@@ -1,4 +1,4 @@
--- The promises on ticks, for one network: what a tick hands out, when, and that else only a bus_off_lem and a stall hand out anything.
+-- The promises on ticks, for one network: what a tick hands out, when, and that else only a bus-off and a stall hand out anything.
 use Rattle.lists.proofs.Basics.{ℕ, ◌+◌, ◌≤◌, arith, eq-eqb, ◌≡◌, refl, sym, ap, ◌∙◌, [], ◌∷◌, ◌++◌, Bool, true, false, ◌&&◌, cond, false≢true}
 use Rattle.lists.proofs.Basics.{true≢false, eqb, leb, ltb, length}
 use Rattle.lists.specs.Lists.{any}
@@ -43,7 +43,7 @@ use Rattle.network_demands.proofs.Stops.{in_step_15, done_stopped}
 use Rattle.network_demands.proofs.Waits.{wait_begins_lem}
 
 -- ---- what is no tick
--- it hands out nothing but what a bus_off_lem while up or a stall does: a test that none of these three passes is passed by no record of it
+-- it hands out nothing but what a bus-off while up or a stall does: a test that none of these three passes is passed by no record of it
 apart_ticks : (n : Network) (e : Seen) (h : OwnHistory) → ticked e ≡ false
     → ((p : Record → Bool) → p (handed 8 n.handle 1) ≡ false → p (handed 6 n.handle 1) ≡ false → p (handed 7 n.handle 3) ≡ false
     → any p e.records ≡ false) → hands 7 n.handle 3 e ≡ fell_up n e h → hands 8 n.handle 1 e ≡ fell_up n e h
@@ -85,7 +85,7 @@ quiet_ticks : (n : Network) (sight : Sight) (number : ℕ) (h : OwnHistory) → 
 unfolding any
 quiet_ticks n sight number h t f = apart_ticks n (seen sight number []) h t (λ p a b c. refl) (sym f) (sym f) (λ _ _. refl)
 
--- a bus_off_lem while up
+-- a bus-off while up
 fall_ticks : (n : Network) (h : OwnHistory) → up n h ≡ true → Ticks n (seen a_bus_off 0 (recovery n.handle)) h
 unfolding any recovery
 fall_ticks n h u =
@@ -235,7 +235,7 @@ unfolding Ran state_of after_move
 ticks n g f e h r =
     let stands = up_means n h r.1 in
     by_part n (state_of n h) (λ e t. Kept n t → mode_number t.told ≡ told n (e ∷ h) → Ran n (e ∷ h) → Ticks n e h) (record {
-      plain = λ sight number mode reported p _ _ _. quiet_ticks n sight number h p.tick (rw p.bus_off_lem refl);
+      plain = λ sight number mode reported p _ _ _. quiet_ticks n sight number h p.tick (rw p.bus_off refl);
       hears = λ c mode ok m l t _ _ _. quiet_ticks n (an_answer c mode ok) 0 h refl refl;
       recovers = λ u _ _ _. fall_ticks n h (stands ∙ u);
       restarts = λ u a _ _ _. quiet_ticks n a_bus_off 0 h refl (stands ∙ u);

@@ -322,7 +322,7 @@ module _ (n : Network) (g : InRange n) (f : Distinct (controllers_of n)) (h : Ow
   stands_call = by_part n s StillStands (record {
     plain = λ sight number wanted reported p.
         let e : Seen = seen sight number [] in
-        let calm : setback n e ≡ false = rw (p.bus_off_lem, p.stall) refl in
+        let calm : setback n e ≡ false = rw (p.bus_off, p.stall) refl in
         rw (since_by n e h false calm, owed_by n e h false calm, stall_by n e h false calm, p.tick)
         (stands_same n e (since (setback n) h) p.tick (λ c. refl) (λ c m. rw (p.answer c 1 1 m, p.answer c 1 0 m) refl)
         (way_of s.step) s.asked s.answers s.count (owed n h) (wanted_at_tick h) (after_stall n h) i);

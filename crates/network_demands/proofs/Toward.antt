@@ -436,7 +436,7 @@ recovering_phase Phase.Silent = false
 recovering_phase Phase.Falling = false
 recovering_phase Phase.Resetting = false
 
--- no network is farther from full than its outfit says, but for the wait after a bus_off_lem
+-- no network is farther from full than its outfit says, but for the wait after a bus-off
 pub at_most : (step : Step) (outfit : Outfit) (delay most : ℕ) → suits outfit step ≡ true → by_each outfit 5 7 10 ≤ most
     → (recovering_phase (phase_of step) ≡ true → delay < most) → 0 < delay → ticks_left outfit delay step ≤ most
 at_most NoCommunication Bare delay most u far wait some = omega (arith, far)

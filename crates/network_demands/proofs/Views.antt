@@ -73,10 +73,10 @@ takes_sight s (a_request mode) = false
 takes_sight s (a_report report) = takes_report s report
 takes_sight s nothing = false
 
--- nothing is handed out, and it is no tick, no bus_off_lem, no accepted stall and no accepted answer of a controller of the network
+-- nothing is handed out, and it is no tick, no bus-off, no accepted stall and no accepted answer of a controller of the network
 pub record Plain (n : Network) (s : State) (sight : Sight) (accepted : Bool) (mode : Mode) (reported : Bool) : Type 0 where
   pub tick : is_tick sight ≡ false
-  pub bus_off_lem : is_bus_off sight ≡ false
+  pub bus_off : is_bus_off sight ≡ false
   pub stall : is_stall sight && accepted ≡ false
   pub answer : (c mode value : ℕ) → member c (controllers_of n) ≡ true → is_answer_on c mode value sight && accepted ≡ false
   -- the mode is that of an accepted request, and else the one before
@@ -101,7 +101,7 @@ pub record ByPart (n : Network) (s : State) (P : Seen → State → Type 0) : Ty
   pub ticks : P (seen a_tick 0 (tick_hands n s)) (tick_after n s)
 
 module _ (n : Network) (s : State) (P : Seen → State → Type 0) (by : ByPart n s P) where
-  -- what is seen is no tick, no bus_off_lem, no accepted stall, no answer and no accepted request
+  -- what is seen is no tick, no bus-off, no accepted stall, no answer and no accepted request
   quiet : (sight : Sight) (number : ℕ) (reported : Bool) → is_tick sight ≡ false → is_bus_off sight ≡ false → is_stall sight && eqb 0 number ≡ false
       → ((c mode value : ℕ) → is_answer_on c mode value sight ≡ false)
       → mode_number s.wanted ≡ cond (eqb 0 number) (wanted_by sight (mode_number s.wanted))
@@ -109,7 +109,7 @@ module _ (n : Network) (s : State) (P : Seen → State → Type 0) (by : ByPart 
       (Kept n s → Kept n (plain_state s s.wanted reported)) → P (seen sight number []) (plain_state s s.wanted reported)
   quiet sight number reported t b x a w r k = by.plain sight number s.wanted reported (record {
     tick = t;
-    bus_off_lem = b;
+    bus_off = b;
     stall = x;
     answer = λ c mode value m. rw (a c mode value) refl;
     wanted = w;
@@ -123,7 +123,7 @@ module _ (n : Network) (s : State) (P : Seen → State → Type 0) (by : ByPart 
       1 ≡ ok → takes_report s (Report.Controller mode) ≡ false) → P (seen (an_answer c mode ok) number []) s
   unheard c mode ok number z f = by.plain (an_answer c mode ok) number s.wanted s.reported (record {
     tick = refl;
-    bus_off_lem = refl;
+    bus_off = refl;
     stall = refl;
     answer = λ c' mode' value m. refused c' mode' value m (is_answer_on c' mode' value (an_answer c mode ok)) refl;
     wanted = either_way (eqb 0 number) (mode_number s.wanted);
@@ -190,7 +190,7 @@ module _ (n : Network) (s : State) (P : Seen → State → Type 0) (by : ByPart 
       (λ mode same may e. subst (λ (k : ℕ). P (seen (a_request asked) k []) (wants s mode)) (sym e)
       (by.plain (a_request asked) 0 mode s.reported (record {
         tick = refl;
-        bus_off_lem = refl;
+        bus_off = refl;
         stall = refl;
         answer = λ c mode value m. refl;
         wanted = sym same;
@@ -274,7 +274,7 @@ tick_after_kept n s k =
       slots = after.slots;
     }
 
--- a record in an up step that asks, with nothing asked or kept as answered: after a bus_off_lem while up, and after a stall
+-- a record in an up step that asks, with nothing asked or kept as answered: after a bus-off while up, and after a stall
 struck_kept : (n : Network) (t : State) → is_full_mode t.told ≡ is_full_step t.step → is_up t.step ≡ true → is_ask (asks_for t.step) ≡ true
     → t.asked ≡ false → t.reported ≡ false → t.answers ≡ padded most_controllers (heard LastAnswer.Pending) (heard_of n t) → Kept n t
 struck_kept n t told up asks asked reported slots = record {

@@ -1,4 +1,4 @@
--- The tick with which the wait after a bus_off_lem begins: it stands in the decision, and is read off the history.
+-- The tick with which the wait after a bus-off begins: it stands in the decision, and is read off the history.
 use Rattle.lists.proofs.Basics.{ℕ, zero, suc, ◌+◌, ◌≤◌, ◌<◌, arith, eq-eqb, ne_eqb, lt-ltb, ltb-false, ◌≡◌, refl, sym, ap, ◌∙◌, List, ◌∷◌, Bool}
 use Rattle.lists.proofs.Basics.{true, false, ◌&&◌, and-false, ltb, eqb, false≢true}
 use mathlib.Core.Bool.{and-true}

@@ -31,7 +31,7 @@ use Rattle.network_demands.proofs.Slots.{said_okay, no_answer_yet, okay_own, oka
 use Rattle.network_demands.proofs.Running.{first_no_tick}
 
 -- ---- the way to full
--- why the controllers are asked to start: the network comes up, or a bus_off_lem or a stall came
+-- why the controllers are asked to start: the network comes up, or a bus-off or a stall came
 pub data Cause : Type 0 where
   coming_up : Cause
   bus_off : Cause
@@ -163,7 +163,7 @@ to_start Ask.CheckWake e = absurd (false≢true e)
 
 -- ---- where the network stands: s is what follows the last setback, d the delay owed since, w the mode wanted at the last tick, x whether that
 -- setback was a stall
--- only a bus_off_lem brings a delay
+-- only a bus-off brings a delay
 abbrev pub delay_by : Network → ℕ → Cause → ℕ
 delay_by n count coming_up = 0
 delay_by n count bus_off = delay_of n count
@@ -353,7 +353,7 @@ module _ (n : Network) (g : InRange n) (s : State) (k : Kept n s) (c mode ok : �
           answers_aside n phase timer s.asked s.answers _ s.count (answering ∷ q) d w x
           (stands_same n answering q refl (λ y. refl) (λ y p. other_mode (sym e) y) (way_in phase timer) s.asked s.answers s.count d w x i)
 
--- ---- bus_offs and stalls
+-- ---- bus-offs and stalls
 -- nothing was asked since, and no answer is kept
 pub anew : (n : Network) (cause : Cause) (count d : ℕ) → is_stall_cause cause ≡ false → d ≡ delay_by n count cause
     → Starts n cause false blank_answers count [] d false

@@ -36,7 +36,7 @@ ticks_from_start n = ticks_to_rest n + ticks_from_rest n
 abbrev pub records_from_start : Network → ℕ
 records_from_start n = 5 * n.count + by_outfit n 3 5 7
 
--- F8: the longest delay that a bus_off_lem can bring: the long one, or the short one where that is longer and one bus_off_lem does not exceed the threshold
+-- F8: the longest delay that a bus-off can bring: the long one, or the short one where that is longer and one bus-off does not exceed the threshold
 abbrev pub longest_delay : Network → ℕ
 longest_delay n = cond (exceeds n.relation n.threshold 1) n.long (max n.long n.short)
 

@@ -48,13 +48,13 @@ tick_after n s = after_move n s (decides n s)
 abbrev pub tick_hands : Network → State → List Record
 tick_hands n s = move_records n s.step s.told (decides n s)
 
--- ---- the bus_off_lem and the stall
+-- ---- the bus-off and the stall
 
--- the record after a bus_off_lem while up
+-- the record after a bus-off while up
 abbrev pub recovered : State → State
 recovered s = after_hit s Hit.Recover
 
--- the record after a bus_off_lem in step 3
+-- the record after a bus-off in step 3
 abbrev pub restarted : State → State
 restarted s = after_hit s Hit.Restart
 

@@ -1,4 +1,4 @@
--- What the box promises of one network, entry by entry: e follows h, both as the network sees them. Which bus_offs, stalls, answers and requests are
+-- What the box promises of one network, entry by entry: e follows h, both as the network sees them. Which bus-offs, stalls, answers and requests are
 -- taken, what is handed out on them, and what a tick hands out. All of it is read off calls, answers and records; nothing looks into the network's
 -- record and nothing cites a rule of its steps.
 use Rattle.std.specs.Prelude.{ℕ, ◌+◌, ◌≤◌, ◌≡◌, List, [], ◌∷◌, ◌++◌, Bool, true, false, ◌&&◌, ◌||◌, cond, not, leb, ltb, eqb, length, get_or}
@@ -15,13 +15,13 @@ use Rattle.network_demands.specs.Words.{rested, on}
 use Rattle.network_demands.specs.Words.{is_stall, is_answer_on, setback, awaited, fell_up, restarting, owed, after_stall, asked_to_start}
 use Rattle.network_demands.specs.Words.{first_running}
 
--- ---- bus_offs
+-- ---- bus-offs
 
--- B3: what a bus_off_lem while up hands out, in this order: 8 prefailed, 6 silent, 7 bus_off_lem
+-- B3: what a bus-off while up hands out, in this order: 8 prefailed, 6 silent, 7 bus-off
 abbrev pub fall_records : Network → List Record
 fall_records n = handed 8 n.handle 1 ∷ handed 6 n.handle 1 ∷ handed 7 n.handle 3 ∷ []
 
--- B3, B5, B6: a bus_off_lem hands out these three while up and else nothing; it is taken exactly if the controllers were asked to start since the last
+-- B3, B5, B6: a bus-off hands out these three while up and else nothing; it is taken exactly if the controllers were asked to start since the last
 -- shutdown
 pub record BusOffs (n : Network) (e : Seen) (h : OwnHistory) : Type 0 where
   pub records : fell e ≡ true → e.records ≡ cond (up n h) (fall_records n) []
@@ -36,7 +36,7 @@ pub record Stalls (n : Network) (e : Seen) (h : OwnHistory) : Type 0 where
 
 -- ---- answers and reports
 
--- A1 to A6: each is taken exactly if its numbers are in range and just that stands asked for: the last tick handed the request out, and no bus_off_lem
+-- A1 to A6: each is taken exactly if its numbers are in range and just that stands asked for: the last tick handed the request out, and no bus-off
 -- and no stall was accepted since
 pub record Answers (n : Network) (e : Seen) (h : OwnHistory) : Type 0 where
   pub controllers : (c mode ok : ℕ) → e.sight ≡ an_answer c mode ok → member c (controllers_of n) ≡ true
@@ -56,9 +56,9 @@ pub record Requests (n : Network) (e : Seen) (h : OwnHistory) : Type 0 where
   -- R14: 08, for silent asked for of a network that came to rest and was not called up since
   pub asleep : (mode : ℕ) → e.sight ≡ a_request mode → eqb 0x08 e.number ≡ eqb 1 mode && (rested n h && not (on n h))
   -- R22: 24, of one that is on and has not told full since its last shutdown
-  pub coming_up_lem : (mode : ℕ) → e.sight ≡ a_request mode → eqb 0x24 e.number ≡ eqb 1 mode && (on n h && not (up n h))
+  pub coming_up : (mode : ℕ) → e.sight ≡ a_request mode → eqb 0x24 e.number ≡ eqb 1 mode && (on n h && not (up n h))
   -- R23: 25, of one that did not come to rest since its last shutdown, or since the start
-  pub going_down_lem : (mode : ℕ) → e.sight ≡ a_request mode → eqb 0x25 e.number ≡ eqb 1 mode && not (rested n h)
+  pub going_down : (mode : ℕ) → e.sight ≡ a_request mode → eqb 0x25 e.number ≡ eqb 1 mode && not (rested n h)
 
 -- ---- ticks
 
@@ -143,11 +143,11 @@ pub record AsksToStart (n : Network) (c : ℕ) (e : Seen) (h : OwnHistory) : Typ
 abbrev pub highest : ℕ → ℕ
 highest kind = get_or (0 ∷ 2 ∷ 1 ∷ 1 ∷ 0 ∷ 0 ∷ 2 ∷ 3 ∷ 1 ∷ []) kind 0
 
--- the wait after a bus_off_lem begins: a delay is owed, and the latest tick is the first since the bus_off_lem before which every controller runs
+-- the wait after a bus-off begins: a delay is owed, and the latest tick is the first since the bus-off before which every controller runs
 abbrev pub wait_begins : Network → OwnHistory → Bool
 wait_begins n h = ltb 0 (owed n h) && eqb (first_running n (since (setback n) h)) (tally ticked (since (setback n) h))
 
--- what a tick hands out, and that else only a bus_off_lem and a stall hand out anything
+-- what a tick hands out, and that else only a bus-off and a stall hand out anything
 pub record Ticks (n : Network) (e : Seen) (h : OwnHistory) : Type 0 where
   -- where full was told, a tick leaves it so exactly if full is wanted
   pub stays_full : ticked e ≡ true → told n h ≡ 2 → eqb 2 (told n (e ∷ h)) ≡ eqb 2 (wanted h)
@@ -168,7 +168,7 @@ pub record Ticks (n : Network) (e : Seen) (h : OwnHistory) : Type 0 where
   pub enters_silent : hands 7 n.handle 1 e ≡ true → EntersSilent n h
   -- T11, T24: every controller goes TX offline exactly with 7 silent and by the tick with which the wait begins
   pub offline : (c : ℕ) → member c (controllers_of n) ≡ true → hands 3 c 1 e ≡ hands 7 n.handle 1 e || (ticked e && wait_begins n (e ∷ h))
-  -- B3: 7 bus_off_lem and 8 prefailed go out exactly by a bus_off_lem while up, and so by no tick
+  -- B3: 7 bus-off and 8 prefailed go out exactly by a bus-off while up, and so by no tick
   pub notes_bus_off : hands 7 n.handle 3 e ≡ fell_up n e h
   pub prefails : hands 8 n.handle 1 e ≡ fell_up n e h
   pub stays_down : rested n h ≡ false → StaysDown n e
@@ -177,7 +177,7 @@ pub record Ticks (n : Network) (e : Seen) (h : OwnHistory) : Type 0 where
   pub starts : (c : ℕ) → hands 1 c 1 e ≡ true → AsksToStart n c e h
   -- no record has an argument above those of its kind
   pub known : any (λ (r : Record). ltb (highest r.kind) r.argument) e.records ≡ false
-  -- F5: a tick hands out at most two records more than the network has controllers, and what is neither a tick, a bus_off_lem nor a
+  -- F5: a tick hands out at most two records more than the network has controllers, and what is neither a tick, a bus-off nor a
   -- stall hands out none
   pub few : ticked e ≡ true → length e.records ≤ n.count + 2
   pub none : ticked e ≡ false → fell e ≡ false → is_stall e.sight ≡ false → e.records ≡ []

@@ -63,7 +63,7 @@ is_tick (a_request mode) = false
 is_tick (a_report report) = false
 is_tick nothing = false
 
--- a bus_off_lem of one of its controllers
+-- a bus-off of one of its controllers
 abbrev pub is_bus_off : Sight → Bool
 is_bus_off a_tick = false
 is_bus_off a_bus_off = true
@@ -113,7 +113,7 @@ wanted_by nothing before = before
 abbrev pub ticked : Seen → Bool
 ticked e = is_tick e.sight
 
--- a bus_off_lem of the network, whatever its answer was; one that was refused for lack of room is not seen
+-- a bus-off of the network, whatever its answer was; one that was refused for lack of room is not seen
 abbrev pub fell : Seen → Bool
 fell e = is_bus_off e.sight
 
@@ -121,7 +121,7 @@ fell e = is_bus_off e.sight
 abbrev pub stalled : Seen → Bool
 stalled e = is_stall e.sight && accepted e
 
--- a bus_off_lem or a stall that was accepted: what stood asked for no longer does
+-- a bus-off or a stall that was accepted: what stood asked for no longer does
 abbrev pub struck : Seen → Bool
 struck e = (fell e && accepted e) || stalled e
 
@@ -133,7 +133,7 @@ shut n e = hands 7 n.handle 0 e
 abbrev pub cleared : Network → Seen → Bool
 cleared n e = hands 8 n.handle 0 e
 
--- a bus_off_lem of the network, an accepted stall, or the beginning of its shutdown: what a controller answered before it no longer counts
+-- a bus-off of the network, an accepted stall, or the beginning of its shutdown: what a controller answered before it no longer counts
 abbrev pub setback : Network → Seen → Bool
 setback n e = fell e || (stalled e || shut n e)
 
@@ -175,7 +175,7 @@ called_up n (e ∷ h) = cond (hands 6 n.handle 0 e) false ((ticked e && eqb 2 (w
 abbrev pub on : Network → OwnHistory → Bool
 on n h = rested n h && called_up n h
 
--- the last tick handed out such a record, and no bus_off_lem and no stall was accepted since
+-- the last tick handed out such a record, and no bus-off and no stall was accepted since
 unfoldable pub awaited : ℕ → ℕ → ℕ → OwnHistory → Bool
 awaited kind target argument [] = false
 awaited kind target argument (e ∷ h) =
@@ -186,9 +186,9 @@ unfoldable pub wanted_at_tick : OwnHistory → ℕ
 wanted_at_tick [] = 0
 wanted_at_tick (e ∷ h) = cond (ticked e) (wanted h) (wanted_at_tick h)
 
--- ---- bus_offs while up, which of them count, and the delay that they bring
+-- ---- bus-offs while up, which of them count, and the delay that they bring
 
--- the entry, which follows h, is a bus_off_lem while the network was up
+-- the entry, which follows h, is a bus-off while the network was up
 abbrev pub fell_up : Network → Seen → OwnHistory → Bool
 fell_up n e h = fell e && up n h
 
@@ -196,35 +196,35 @@ fell_up n e h = fell e && up n h
 abbrev pub quieted : Seen → Bool
 quieted e = any (λ (r : Record). eqb 3 r.kind && eqb 1 r.argument) e.records
 
--- restarting: a bus_off_lem came while the network was up, and neither TX offline nor a shutdown since
+-- restarting: a bus-off came while the network was up, and neither TX offline nor a shutdown since
 unfoldable pub restarting : Network → OwnHistory → Bool
 restarting n [] = false
 restarting n (e ∷ h) = cond (quieted e || shut n e) false (fell_up n e h || restarting n h)
 
--- the entry, which follows h, is a bus_off_lem that counts: it came while the network was up, and not while it was restarting
+-- the entry, which follows h, is a bus-off that counts: it came while the network was up, and not while it was restarting
 abbrev pub counts : Network → Seen → OwnHistory → Bool
 counts n e h = fell_up n e h && not (restarting n h)
 
--- how many bus_offs counted since the last all-clear: of each entry by what went before it
+-- how many bus-offs counted since the last all-clear: of each entry by what went before it
 unfoldable pub falls : Network → OwnHistory → ℕ
 falls n [] = 0
 falls n (e ∷ h) = cond (cleared n e) 0 (cond (counts n e h) (suc (falls n h)) (falls n h))
 
--- so many bus_offs exceed the threshold, by a network's own relation: more than it, or at least as many
+-- so many bus-offs exceed the threshold, by a network's own relation: more than it, or at least as many
 abbrev pub exceeds : Relation → ℕ → ℕ → Bool
 exceeds Relation.Above threshold number = ltb threshold number
 exceeds Relation.AtOrAbove threshold number = leb threshold number
 
--- the delay that a bus_off_lem at the head of the history brings, whether it counts or not: the long one exactly where those that count, up to and with
+-- the delay that a bus-off at the head of the history brings, whether it counts or not: the long one exactly where those that count, up to and with
 -- it, exceed the threshold
 abbrev pub delay_at : Network → OwnHistory → ℕ
 delay_at n h = cond (exceeds n.relation n.threshold (falls n h)) n.long n.short
 
--- one fault is counted once: whatever s reports, which follows the bus_off_lem b while up, no bus_off_lem more counts until TX offline or a shutdown
+-- one fault is counted once: whatever s reports, which follows the bus-off b while up, no bus-off more counts until TX offline or a shutdown
 abbrev pub CountedOnce : Network → OwnHistory → Seen → OwnHistory → Type 0
 CountedOnce n s b h = fell_up n b h ≡ true → never quieted s → never (shut n) s → falls n (s ++ (b ∷ h)) ≡ falls n (b ∷ h)
 
--- the delay that is owed since the last setback: that of a bus_off_lem while up, and else none
+-- the delay that is owed since the last setback: that of a bus-off while up, and else none
 unfoldable pub owed : Network → OwnHistory → ℕ
 owed n [] = 0
 owed n (e ∷ h) = cond (setback n e) (cond (fell_up n e h) (delay_at n (e ∷ h)) 0) (owed n h)
@@ -274,19 +274,19 @@ abbrev pub ToldNo : Network → OwnHistory → Type 0
 ToldNo n h = eqb 0 (told n h) ≡ not (any (hands 6 n.handle 2) (since (hands 6 n.handle 0) h))
 
 -- ---- demand 3, first sentence: in a network that is said to be full each controller was asked to start and its last answer says that it runs, both
--- since the latest of the start, the last bus_off_lem, the last accepted stall and the last shutdown
+-- since the latest of the start, the last bus-off, the last accepted stall and the last shutdown
 abbrev pub Answered : Network → OwnHistory → Type 0
 Answered n h = told n h ≡ 2 → (c : ℕ) → member c (controllers_of n) ≡ true → runs c (since (setback n) h) ≡ true
 
--- ---- second sentence: full again after a bus_off_lem while up only when the delay that is due and two ticks are over. The history is s after the
--- bus_off_lem b after h.
+-- ---- second sentence: full again after a bus-off while up only when the delay that is due and two ticks are over. The history is s after the
+-- bus-off b after h.
 
--- if b came while up, s has no further bus_off_lem and no shutdown, and full is told at the end, then s has the delay plus two ticks or more
+-- if b came while up, s has no further bus-off and no shutdown, and full is told at the end, then s has the delay plus two ticks or more
 abbrev pub Delayed : Network → OwnHistory → Seen → OwnHistory → Type 0
 Delayed n s b h =
     fell_up n b h ≡ true → never fell s → never (shut n) s → told n (s ++ (b ∷ h)) ≡ 2 → delay_at n (b ∷ h) + 2 ≤ tally ticked s
 
--- however late the answers are: if b came while up, and s has no further bus_off_lem, no stall and no shutdown, then full is told exactly if it is due;
+-- however late the answers are: if b came while up, and s has no further bus-off, no stall and no shutdown, then full is told exactly if it is due;
 -- the tick before which every controller runs is never the first
 abbrev pub LateAnswers : Network → OwnHistory → Seen → OwnHistory → Type 0
 LateAnswers n s b h =
@@ -351,7 +351,7 @@ full_from number [] h = true
 full_from number (e ∷ s) h = cond (ticked e && leb number (tally ticked (e ∷ s))) (eqb 2 (wanted (s ++ h))) true && full_from number s h
 
 -- F2: the ticks of s are good: full is wanted at them, from one of them on; of each request that the tick before handed out the last call that
--- answers it says ok; no bus_off_lem and no stall was accepted. A bus_off_lem that is refused, an answer that is not ok and is followed by an ok, one that
+-- answers it says ok; no bus-off and no stall was accepted. A bus-off that is refused, an answer that is not ok and is followed by an ok, one that
 -- nobody asked for: all of that may come
 pub record GoodTicks (number : ℕ) (s h : OwnHistory) : Type 0 where
   pub full : full_from number s h ≡ true
@@ -360,7 +360,7 @@ pub record GoodTicks (number : ℕ) (s h : OwnHistory) : Type 0 where
 
 -- ---- third sentence: where the ticks are good, that tick is the one that tells full
 
--- a tick t tells full exactly if it is the one numbered delay plus two after the bus_off_lem b
+-- a tick t tells full exactly if it is the one numbered delay plus two after the bus-off b
 abbrev pub OnJustThatTick : Network → Seen → OwnHistory → Seen → OwnHistory → Type 0
 OnJustThatTick n t s b h =
     fell_up n b h ≡ true → GoodTicks 1 (t ∷ s) (b ∷ h) → ticked t ≡ true
@@ -373,7 +373,7 @@ SaidFrom n s b h =
 
 -- ---- after a stall: the history is s after the stall b after h
 
--- however late the answers are: if s has no bus_off_lem, no further stall and no shutdown, then full is told exactly if it is due, without a delay; the
+-- however late the answers are: if s has no bus-off, no further stall and no shutdown, then full is told exactly if it is due, without a delay; the
 -- tick before which every controller runs is never one of the first two
 abbrev pub LateAfterStall : Network → OwnHistory → Seen → OwnHistory → Type 0
 LateAfterStall n s b h =

@@ -1,4 +1,4 @@
--- What a network makes of a bus_off_lem, in every step.
+-- What a network makes of a bus-off, in every step.
 use Rattle.lists.proofs.Basics.{ℕ, ◌≡◌, refl, ◌∙◌}
 use Rattle.settings.specs.declared.Network.{Network}
 use Rattle.steps.specs.declared.Step.{Step}
@@ -50,7 +50,7 @@ step_bus_off CheckWakeAgain count = (refl, refl)
 step_bus_off ResetStopped count = (refl, refl)
 step_bus_off ResetStarted count = (refl, refl)
 
--- a bus_off_lem has the answer that the number of the step says, and the count after it is the one that it says
+-- a bus-off has the answer that the number of the step says, and the count after it is the one that it says
 pub bus_off_by_step : (n : Network) (s : State) → (reply_number (part_of n s a_bus_off).reply ≡ bus_off_number (step_number s.step))
     × ((part_of n s a_bus_off).state.count ≡ count_at (step_number s.step) s.count)
 unfolding part_of hit_part

@@ -59,7 +59,7 @@ by_silent Phase.Falling Q up asleep rising falling = falling
 by_silent Phase.Resetting Q up asleep rising falling = up refl
 
 -- ---- by what a call is
--- a bus_off_lem
+-- a bus-off
 pub by_hit : (s : State) (Q : Hit → Type 0) → (is_up s.step ≡ true → Q Hit.Recover) → (is_up s.step ≡ false → asks_to_start (asks_for s.step)
     ≡ true → Q Hit.Restart) → (is_up s.step ≡ false → asks_to_start (asks_for s.step) ≡ false → Q Hit.NotTaken) → Q (hit_of s.step)
 unfolding hit_of

@@ -34,7 +34,7 @@ pub tick_own : (n : Network) (s : State) → every (own_record n) (tick_records 
 unfolding tick_records
 tick_own n s = move_own n s.step s.told (move_of n s)
 
--- and so does every record of a bus_off_lem or a stall
+-- and so does every record of a bus-off or a stall
 pub hit_own : (n : Network) (hit : Hit) → every (own_record n) (hit_records n hit) ≡ true
 unfolding hit_records every Rattle.lists.specs.Lists.any
 hit_own n Hit.Recover = recovery_own n
@@ -96,7 +96,7 @@ pub asking_again_keeps : (n : Network) (s : State) →
 unfolding after_move
 asking_again_keeps n s = (refl, refl)
 
--- B4, B5: after a bus_off_lem that is taken they are blank, and the step has not asked
+-- B4, B5: after a bus-off that is taken they are blank, and the step has not asked
 pub recovery_forgets : (s : State) → ((after_hit s Hit.Recover).answers ≡ blank_answers) × ((after_hit s Hit.Recover).asked ≡ false)
 unfolding after_hit made_anew
 recovery_forgets s = (refl, refl)

@@ -1,4 +1,4 @@
--- What a network makes of a bus_off_lem, by the number of its step alone: nothing here knows of phases, or of what a step is for. The rules B2, B5 and B6
+-- What a network makes of a bus-off, by the number of its step alone: nothing here knows of phases, or of what a step is for. The rules B2, B5 and B6
 -- of docs/RULES.md.
 use Rattle.std.specs.Prelude.{ℕ, ◌+◌, [], ◌∷◌, Bool, true, false, cond, ltb, get_or}
 

@@ -54,7 +54,7 @@ fitted = network (Transceiver.Present 6) false Relation.Above
 abbrev partial : Network
 partial = network (Transceiver.Present 6) true Relation.Above
 
--- a record: step, wanted and told mode, bus_off_lem count, asked, the answers of the two controllers, the report
+-- a record: step, wanted and told mode, bus-off count, asked, the answers of the two controllers, the report
 abbrev at : Step → Mode → Mode → ℕ → Bool → LastAnswer → LastAnswer → Bool → State
 at step wanted told count asked first second reported =
     record {

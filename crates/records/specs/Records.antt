@@ -87,11 +87,11 @@ check_wake id = handed 5 id 0
 abbrev pub tells : ℕ → Mode → Record
 tells handle mode = handed 6 handle (mode_number mode)
 
--- H11: kind 7, the mode manager is told of a network's mode, or of its bus_off_lem
+-- H11: kind 7, the mode manager is told of a network's mode, or of its bus-off
 abbrev pub notes : ℕ → Notice → Record
 notes handle notice = handed 7 handle (notice_number notice)
 
--- H12: kind 8, the event manager is told: passed is the all-clear, prefailed comes with a bus_off_lem while up
+-- H12: kind 8, the event manager is told: passed is the all-clear, prefailed comes with a bus-off while up
 abbrev pub reports : ℕ → EventStatus → Record
 reports handle status = handed 8 handle (status_number status)
 

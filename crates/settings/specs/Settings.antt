@@ -29,7 +29,7 @@ controller_ids = 32
 abbrev pub transceiver_ids : ℕ
 transceiver_ids = 8
 
--- S8: 255 is no threshold, so that a count of bus_offs, which goes up to 255, can be above every threshold
+-- S8: 255 is no threshold, so that a count of bus-offs, which goes up to 255, can be above every threshold
 abbrev pub thresholds : ℕ
 thresholds = 255
 

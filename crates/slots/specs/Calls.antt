@@ -162,7 +162,7 @@ abbrev pub gate_records : Gate → List Record → List Record
 gate_records (Gate.Refused refusal) rs = []
 gate_records Gate.Open rs = rs
 
--- R17: the bytes that a bus_off_lem needs
+-- R17: the bytes that a bus-off needs
 abbrev pub bus_off_needs : ℕ
 bus_off_needs = 9
 
@@ -245,7 +245,7 @@ abbrev pub Hears : Manager → Message → Answer → Manager → Type 0
 Hears m message said after =
     (let o : Outcome = record { answer = said; manager = after; count = 0; mode = 0; place = 0 } in o) ≡ outcome m (call_of message)
 
--- H2: the records that the rules of the networks make on a call, in the order in which they are made; only a bus_off_lem, a stall, a tick and a call to
+-- H2: the records that the rules of the networks make on a call, in the order in which they are made; only a bus-off, a stall, a tick and a call to
 -- listen make any
 unfoldable pub by_rules : Manager → Call → List Record
 by_rules m (read bytes) = []
@@ -282,7 +282,7 @@ pub record Gives (m : Manager) (c : Call) (b : List ℕ) (r : Outcome) (after : 
   pub result : r ≡ outcome m c
   pub buffer : after ≡ buffer_with b (handed_out m c)
 
--- what a slot gives that a bus_off_lem or a stall names
+-- what a slot gives that a bus-off or a stall names
 pub record SlotGives (m : Manager) (slot : Slot) (sight : Sight) (b : List ℕ) (r : Outcome) (after : List ℕ) : Type 0 where
   pub result : r ≡ by_slot m slot (λ i. slot_outcome m i sight)
   pub buffer : after ≡ buffer_with b (slot_records m slot sight)

@@ -122,7 +122,7 @@ is_full_step step = full_phase (phase_of step)
 abbrev pub is_online_step : Step → Bool
 is_online_step step = online_phase (phase_of step)
 
--- B2: step 6, in which the controllers are started again after a bus_off_lem
+-- B2: step 6, in which the controllers are started again after a bus-off
 abbrev pub is_restarting : Step → Bool
 is_restarting step = eqb 6 (step_number step)
 

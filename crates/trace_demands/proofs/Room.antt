@@ -31,7 +31,7 @@ use Rattle.trace_demands.specs.Recorded.{history_after, too_short}
 abbrev NotShort : Outcome → Type 0
 NotShort o = answer_number o.answer ≡ 0x20 → ⊥
 
--- ---- a bus_off_lem and a stall
+-- ---- a bus-off and a stall
 refusal_not_short : (refusal : Refusal) → refusal_number refusal ≡ 0x20 → ⊥
 refusal_not_short Refusal.OutOfRange e = omega arith
 refusal_not_short Refusal.Asleep e = omega arith

@@ -14,7 +14,7 @@ returns_2 : tie.Need-returns-2
 returns_2 c =
     let e = c.before.before.before in
     lent_gives _ e.before.before.args.event (bus_off e.event2.given.0.0) _ _ (ap call_of e.event2.given.1) (search needs)
-    c.bus_off_lem.ensures
+    c.bus_off.ensures
 
 returns_3 : tie.Need-returns-3
 unfolding by_rules handed_out
