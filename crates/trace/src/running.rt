@@ -12,7 +12,9 @@ use std::io::Write;
 // The bytes of a block.
 const BLOCK: usize = 65536;
 
-fn empty_block() -> [u8; BLOCK] {
+fn empty_block() -> [u8; BLOCK]
+    ensures { 65536 ≡ length result }
+{
     [0; BLOCK]
 }
 
@@ -34,12 +36,7 @@ fn fill(input: &[u8], from: Point, block: &mut [u8]) -> Point
 
 // Hands bytes to the writer, and counts them. It asks that they come next in the output of the input, after as many as are written, and is the
 // one place where something is written. An error says that no more than a front of them is written, and counts none.
-fn put_next<W: Write>(
-    out: &mut W,
-    input: &[u8],
-    written: &mut usize,
-    part: &[u8],
-) -> io::Result<()>
+fn put_next<W: Write>(out: &mut W, input: &[u8], written: &mut usize, part: &[u8]) -> io::Result<()>
     requires next { Next input.now written.old part.now }
     requires part_bound { written.old + length part.now < 2 ^ 64 }
     ensures counted { OnOk result (written.new ≡ written.old + length part.now) }
