@@ -253,7 +253,7 @@ INPUTS: Dict[str, Callable[[int], bytes]] = {
 
 def cantrace_command() -> List[str]:
     """How the built program is run on this machine."""
-    return [str(ROOT / "target" / "bin" / "cantrace")] if is_native() else [str(ROOT / "cantrace")]
+    return [str(ROOT / "crates" / "cantrace" / "out" / "cantrace")] if is_native() else [str(ROOT / "cantrace")]
 
 
 def seconds_of(data: bytes) -> Tuple[float, float, float]:

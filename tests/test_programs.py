@@ -167,18 +167,24 @@ beside: middle
 """
 PROVING = """
 case $called in
-"rt check cantrace")
+"rt run")
     for crate in low middle top cantrace; do
-        echo "fn $crate::it: proved"
-        echo "rt: $crate proved (1 s)"
+        echo "fn $crate::it: proved" >&2
+        echo "crate $crate: modules loaded=1 checked=2" >&2
+        echo "logic=proved functions=1" >&2
     done
     echo "a word beside" >&2
-    mkdir -p target/bin
-    printf '#!/bin/sh\\necho the program\\n' >target/bin/cantrace
-    chmod +x target/bin/cantrace ;;
+    mkdir -p out
+    printf '#!/bin/sh\\necho the program\\n' >out/cantrace
+    chmod +x out/cantrace
+    echo "what the program writes for no input" ;;
 "uname -m") echo x86_64 ;;
 esac
 """
+SAID_OF_A_FAILURE = [
+    "crate low: modules loaded=1 checked=2", "logic=proved functions=1", "crate middle: modules loaded=1 checked=0", "logic=not-proved",
+]
+FAILING = "\n".join(["case $called in 'rt run')", *(f"echo '{line}' >&2" for line in SAID_OF_A_FAILURE), "exit 2 ;;", "esac"])
 
 
 class ProgressTest(FakedTest):
@@ -188,7 +194,7 @@ class ProgressTest(FakedTest):
         super().setUp()
         for path in ("bin/rt", "bin/uname"):
             self.fake(path)
-        (self.folder / "crates").mkdir()
+        (self.folder / "crates" / "cantrace").mkdir(parents=True)
         (self.folder / "crates.txt").write_text(CRATES_LIST, encoding="utf-8")
 
     def run_cantrace(self, script):
@@ -206,20 +212,20 @@ class ProgressTest(FakedTest):
             "cantrace: proved crate 4 of 4: cantrace",
         ])
         log = (self.folder / "target" / "cantrace.log").read_text(encoding="utf-8")
-        self.assertEqual(len(log.splitlines()), 9)
+        self.assertEqual(len(log.splitlines()), 13)
         self.assertIn("a word beside", log)
 
     def test_what_is_built_is_not_built_again(self):
         self.run_cantrace(PROVING)
         self.assertEqual(self.run_cantrace(PROVING), (0, ["the program"], []))
-        self.assertEqual(self.calls().count("rt check cantrace"), 1)
+        self.assertEqual(self.calls().count("rt run"), 1)
 
     def test_a_failing_build_says_where_the_log_is(self):
-        status, output, said = self.run_cantrace('case $called in "rt "*) echo "rt: low proved (1 s)"; echo "rt: FAILED: middle"; exit 2 ;; esac')
+        status, output, said = self.run_cantrace(FAILING)
         log = (self.folder / "target" / "cantrace.log").resolve()
         self.assertEqual((status, output), (1, []))
         self.assertEqual(said[1:], ["cantrace: proved crate 1 of 4: low", f"cantrace: the program could not be built; {log} has what rt said"])
-        self.assertEqual(log.read_text(encoding="utf-8").splitlines(), ["rt: low proved (1 s)", "rt: FAILED: middle"])
+        self.assertEqual(log.read_text(encoding="utf-8").splitlines(), SAID_OF_A_FAILURE)
 
 
 if __name__ == "__main__":

@@ -2,7 +2,7 @@
 // E13: the whole case is its stored input, and what it writes is compared with its stored output.
 #![tactic(auto)]
 
-use libc::STDIN_FILENO;
+use std::io;
 use trace::Trace;
 
 // One byte more than the longest input, so that a longer one is seen.
@@ -12,8 +12,9 @@ fn room() -> [u8; ROOM] {
     [0; ROOM]
 }
 
-fn main() {
+fn main(rt: HostRuntime) -> io::Result<()> {
     let mut input = room();
-    let count = io::read_full(STDIN_FILENO, &mut input);
-    trace::run(&input[..count]);
+    let count = streams::read_full(&mut rt.stdin(), &mut input)?;
+    trace::run(&mut io::writer(&rt), &input[..count])?;
+    Ok(())
 }

@@ -4,6 +4,8 @@
 #![tactic(auto)]
 
 use records::{Mode, NamedMode};
+use std::io;
+use std::io::Write;
 use steps::{Outfit, Step};
 
 // How many choices there are of each.
@@ -80,27 +82,32 @@ fn next_step(step: Step, situation: u8) -> Step {
     steps::step_after(decided, step, is_partial(outfit))
 }
 
-fn put_step(step: Step) {
-    printing::put_byte(step.number());
+fn put_step<W: Write>(out: &mut W, step: Step) -> io::Result<()> {
+    printing::put_byte(out, step.number())
 }
 
-fn put_line(step: Step) {
-    printing::put_digits(step.number() as u64);
+fn put_line<W: Write>(out: &mut W, step: Step) -> io::Result<()> {
+    printing::put_digits(out, step.number() as u64)?;
     let mut situation: u8 = 0;
     while situation < SITUATIONS {
-        put_step(next_step(step, situation));
+        put_step(out, next_step(step, situation))?;
         situation += 1;
     }
-    printing::end_line();
+    printing::end_line(out)
 }
 
-fn main() {
-    printing::put_text(b"expected output made by: python3 tests/decisions.py\n");
+fn main(rt: HostRuntime) -> io::Result<()> {
+    let mut out = io::writer(&rt);
+    printing::put_text(
+        &mut out,
+        b"expected output made by: python3 tests/decisions.py\n",
+    )?;
     let mut step = Step::NoCommunication;
     let mut written: u8 = 0;
     while written < STEPS {
-        put_line(step);
+        put_line(&mut out, step)?;
         step = following(step);
         written += 1;
     }
+    Ok(())
 }

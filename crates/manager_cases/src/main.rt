@@ -2,8 +2,9 @@
 // Input: for each call one byte that says which, and its arguments. An unknown or cut call ends the program.
 #![tactic(auto)]
 
-use libc::STDIN_FILENO;
 use manager::{Manager, Outcome};
+use std::io;
+use std::io::Write;
 
 // Which call, as the input says it.
 const NEW: u8 = 0x00;
@@ -43,6 +44,9 @@ const WITH_TWO: usize = 3;
 
 const WITH_THREE: usize = 4;
 
+// The most bytes of the input that are read.
+const INPUT: usize = 65536;
+
 // The lent buffers: room for the records of any call, and for the largest sheet and some bytes that must stay.
 const RECORDS_ROOM: usize = 144;
 
@@ -56,36 +60,43 @@ const RECORD: usize = 3;
 // ---- lines
 
 // The number of a call and its name, at the front of a line.
-fn begin_line(number: u64, name: &[u8]) {
-    printing::put_digits(number);
-    printing::put_text(b" ");
-    printing::put_text(name);
+fn begin_line<W: Write>(out: &mut W, number: u64, name: &[u8]) -> io::Result<()> {
+    printing::put_digits(out, number)?;
+    printing::put_text(out, b" ")?;
+    printing::put_text(out, name)
 }
 
-fn put_outcome(outcome: Outcome) {
+fn put_outcome<W: Write>(out: &mut W, outcome: Outcome) -> io::Result<()> {
     let answer = outcome.answer;
-    printing::put_byte(answer.number());
-    printing::put_size(outcome.count);
-    printing::put_byte(outcome.mode);
-    printing::put_size(outcome.place);
+    printing::put_byte(out, answer.number())?;
+    printing::put_size(out, outcome.count)?;
+    printing::put_byte(out, outcome.mode)?;
+    printing::put_size(out, outcome.place)
 }
 
 // The line of a call without a lent buffer, and the manager after it.
-fn tell(number: u64, name: &[u8], outcome: Outcome) -> Manager {
-    begin_line(number, name);
-    put_outcome(outcome);
-    printing::end_line();
-    outcome.manager
+fn tell<W: Write>(out: &mut W, number: u64, name: &[u8], outcome: Outcome) -> io::Result<Manager> {
+    begin_line(out, number, name)?;
+    put_outcome(out, outcome)?;
+    printing::end_line(out)?;
+    Ok(outcome.manager)
 }
 
 // The line of a call with a lent buffer: its first bytes too, what was written and some after it.
-fn tell_lent(number: u64, name: &[u8], outcome: Outcome, buffer: &[u8], shown: usize) -> Manager {
-    begin_line(number, name);
-    put_outcome(outcome);
-    printing::put_text(b" ");
-    printing::put_hex(buffer, shown);
-    printing::end_line();
-    outcome.manager
+fn tell_lent<W: Write>(
+    out: &mut W,
+    number: u64,
+    name: &[u8],
+    outcome: Outcome,
+    buffer: &[u8],
+    shown: usize,
+) -> io::Result<Manager> {
+    begin_line(out, number, name)?;
+    put_outcome(out, outcome)?;
+    printing::put_text(out, b" ")?;
+    printing::put_hex(out, buffer, shown)?;
+    printing::end_line(out)?;
+    Ok(outcome.manager)
 }
 
 // ---- the bytes of a call
@@ -191,21 +202,37 @@ fn tick_part(manager: Manager, buffer: &mut [u8], length: usize) -> Outcome {
 
 // ---- calls
 
-fn run_new(number: u64) -> Manager {
-    tell(number, b"new", Outcome::accept(manager::new()))
+fn run_new<W: Write>(out: &mut W, number: u64) -> io::Result<Manager> {
+    tell(out, number, b"new", Outcome::accept(manager::new()))
 }
 
-fn run_read(number: u64, manager: Manager, call: &[u8]) -> Manager {
+fn run_read<W: Write>(
+    out: &mut W,
+    number: u64,
+    manager: Manager,
+    call: &[u8],
+) -> io::Result<Manager> {
     if call.len() < WITH_TWO {
-        return manager;
+        return Ok(manager);
     }
-    tell(number, b"read", manager::read(manager, &call[WITH_TWO..]))
+    tell(
+        out,
+        number,
+        b"read",
+        manager::read(manager, &call[WITH_TWO..]),
+    )
 }
 
-fn run_write(number: u64, manager: Manager, length: usize) -> Manager {
+fn run_write<W: Write>(
+    out: &mut W,
+    number: u64,
+    manager: Manager,
+    length: usize,
+) -> io::Result<Manager> {
     let mut buffer = filled_for_sheet();
     let outcome = write_part(manager, &mut buffer, length);
     tell_lent(
+        out,
         number,
         b"write",
         outcome,
@@ -214,10 +241,17 @@ fn run_write(number: u64, manager: Manager, length: usize) -> Manager {
     )
 }
 
-fn run_bus_off(number: u64, manager: Manager, id: u8, length: u8) -> Manager {
+fn run_bus_off<W: Write>(
+    out: &mut W,
+    number: u64,
+    manager: Manager,
+    id: u8,
+    length: u8,
+) -> io::Result<Manager> {
     let mut buffer = filled_for_records();
     let outcome = bus_off_part(manager, id, &mut buffer, length as usize);
     tell_lent(
+        out,
         number,
         b"bus-off",
         outcome,
@@ -226,10 +260,17 @@ fn run_bus_off(number: u64, manager: Manager, id: u8, length: u8) -> Manager {
     )
 }
 
-fn run_stall(number: u64, manager: Manager, handle: u8, length: u8) -> Manager {
+fn run_stall<W: Write>(
+    out: &mut W,
+    number: u64,
+    manager: Manager,
+    handle: u8,
+    length: u8,
+) -> io::Result<Manager> {
     let mut buffer = filled_for_records();
     let outcome = stall_part(manager, handle, &mut buffer, length as usize);
     tell_lent(
+        out,
         number,
         b"stall",
         outcome,
@@ -238,10 +279,17 @@ fn run_stall(number: u64, manager: Manager, handle: u8, length: u8) -> Manager {
     )
 }
 
-fn run_listen(number: u64, manager: Manager, value: u8, length: u8) -> Manager {
+fn run_listen<W: Write>(
+    out: &mut W,
+    number: u64,
+    manager: Manager,
+    value: u8,
+    length: u8,
+) -> io::Result<Manager> {
     let mut buffer = filled_for_records();
     let outcome = listen_part(manager, value, &mut buffer, length as usize);
     tell_lent(
+        out,
         number,
         b"listen",
         outcome,
@@ -250,10 +298,16 @@ fn run_listen(number: u64, manager: Manager, value: u8, length: u8) -> Manager {
     )
 }
 
-fn run_tick(number: u64, manager: Manager, length: u8) -> Manager {
+fn run_tick<W: Write>(
+    out: &mut W,
+    number: u64,
+    manager: Manager,
+    length: u8,
+) -> io::Result<Manager> {
     let mut buffer = filled_for_records();
     let outcome = tick_part(manager, &mut buffer, length as usize);
     tell_lent(
+        out,
         number,
         b"tick",
         outcome,
@@ -263,16 +317,22 @@ fn run_tick(number: u64, manager: Manager, length: u8) -> Manager {
 }
 
 // The calls from below and the tick.
-fn run_below(number: u64, manager: Manager, call: &[u8]) -> Manager {
+fn run_below<W: Write>(
+    out: &mut W,
+    number: u64,
+    manager: Manager,
+    call: &[u8],
+) -> io::Result<Manager> {
     let code = byte_at(call, 0);
     let first = byte_at(call, 1);
     let second = byte_at(call, 2);
     if code == BUS_OFF {
-        return run_bus_off(number, manager, first, second);
+        return run_bus_off(out, number, manager, first, second);
     }
     if code == ANSWER {
         let third = byte_at(call, 3);
         return tell(
+            out,
             number,
             b"answer",
             manager::controller_answer(manager, first, second, third),
@@ -280,77 +340,93 @@ fn run_below(number: u64, manager: Manager, call: &[u8]) -> Manager {
     }
     if code == TRANSCEIVER {
         return tell(
+            out,
             number,
             b"transceiver",
             manager::transceiver_mode(manager, first, second),
         );
     }
     if code == CLEAR {
-        return tell(number, b"clear", manager::clear_done(manager, first));
+        return tell(out, number, b"clear", manager::clear_done(manager, first));
     }
     if code == CHECK {
-        return tell(number, b"check", manager::check_done(manager, first));
+        return tell(out, number, b"check", manager::check_done(manager, first));
     }
-    run_tick(number, manager, first)
+    run_tick(out, number, manager, first)
 }
 
 // Runs one call, which is known and whole.
-fn run_call(number: u64, manager: Manager, call: &[u8]) -> Manager {
+fn run_call<W: Write>(
+    out: &mut W,
+    number: u64,
+    manager: Manager,
+    call: &[u8],
+) -> io::Result<Manager> {
     let code = byte_at(call, 0);
     let first = byte_at(call, 1);
     if code == NEW {
-        return run_new(number);
+        return run_new(out, number);
     }
     if code == READ {
-        return run_read(number, manager, call);
+        return run_read(out, number, manager, call);
     }
     if code == START {
-        return tell(number, b"start", manager::start(manager));
+        return tell(out, number, b"start", manager::start(manager));
     }
     if code == WRITE {
-        return run_write(number, manager, named_length(call) as usize);
+        return run_write(out, number, manager, named_length(call) as usize);
     }
     if code == REQUEST {
         return tell(
+            out,
             number,
             b"request",
             manager::request(manager, first, byte_at(call, 2)),
         );
     }
     if code == POLL {
-        return tell(number, b"poll", manager::poll(manager, first));
+        return tell(out, number, b"poll", manager::poll(manager, first));
     }
     if code == STALL {
-        return run_stall(number, manager, first, byte_at(call, 2));
+        return run_stall(out, number, manager, first, byte_at(call, 2));
     }
     if code == LISTEN {
-        return run_listen(number, manager, first, byte_at(call, 2));
+        return run_listen(out, number, manager, first, byte_at(call, 2));
     }
-    run_below(number, manager, call)
+    run_below(out, number, manager, call)
 }
 
-fn run_calls(input: &[u8]) {
+fn run_calls<W: Write>(out: &mut W, input: &[u8]) -> io::Result<()> {
     let mut manager = manager::new();
     let mut number: u64 = 0;
     let mut at: usize = 0;
     while at < input.len() {
         let length = call_length(&input[at..]);
         if length == 0 {
-            return;
+            return Ok(());
         }
         if input.len() - at < length {
-            return;
+            return Ok(());
         }
         let to = at + length;
         number += 1;
-        manager = run_call(number, manager, &input[at..to]);
+        manager = run_call(out, number, manager, &input[at..to])?;
         at = to;
     }
+    Ok(())
 }
 
-fn main() {
-    let mut input = io::large_buffer();
-    let count = io::read_full(STDIN_FILENO, &mut input);
-    printing::put_text(b"expected output made by: python3 tests/manager_cases.py\n");
-    run_calls(&input[..count]);
+fn input_room() -> [u8; INPUT] {
+    [0; INPUT]
+}
+
+fn main(rt: HostRuntime) -> io::Result<()> {
+    let mut input = input_room();
+    let count = streams::read_full(&mut rt.stdin(), &mut input)?;
+    let mut out = io::writer(&rt);
+    printing::put_text(
+        &mut out,
+        b"expected output made by: python3 tests/manager_cases.py\n",
+    )?;
+    run_calls(&mut out, &input[..count])
 }

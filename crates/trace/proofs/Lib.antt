@@ -3,3 +3,4 @@ pub mod EventLaws
 pub mod Telling
 pub mod Theorems
 pub mod Blocks
+pub mod Writes

@@ -1,10 +1,22 @@
 // The whole output for an input, block by block.
-ghost use Rattle.std.specs.Prelude.{◌≡◌, ◌+◌, ◌^◌, ◌≤◌, ◌<◌, length};
+ghost use Rattle.std.specs.Prelude.{◌≡◌, ◌+◌, ◌^◌, ◌≤◌, ◌<◌, length, IfOk, OnOk, OnErr};
+ghost use Rattle.std.specs.Io.KnownBytes.{Appends};
+ghost use Rattle.streams.specs.Streams.{AppendsFront};
 ghost use Rattle.trace.specs.Trace.{Filled, output_of, Next};
 
 use crate::lines::{event_line, first_line};
 use crate::{Point, Trace};
-use libc::STDOUT_FILENO;
+use std::io;
+use std::io::Write;
+
+// The bytes of a block.
+const BLOCK: usize = 65536;
+
+fn empty_block() -> [u8; BLOCK]
+    ensures { 65536 ≡ length result }
+{
+    [0; BLOCK]
+}
 
 // Fills a block from a point on with whole lines, while the input has more and the block has room for the longest line.
 fn fill(input: &[u8], from: Point, block: &mut [u8]) -> Point
@@ -22,34 +34,40 @@ fn fill(input: &[u8], from: Point, block: &mut [u8]) -> Point
     point
 }
 
-// Hands bytes to the operating system, and counts them. It asks that they come next in the output of the input, after as many as are written, and
-// is the one place where something is written.
-fn put_next(input: &[u8], written: &mut usize, part: &[u8])
+// Hands bytes to the writer, and counts them. It asks that they come next in the output of the input, after as many as are written, and is the
+// one place where something is written. An error says that no more than a front of them is written, and counts none.
+fn put_next<W: Write>(out: &mut W, input: &[u8], written: &mut usize, part: &[u8]) -> io::Result<()>
     requires next { Next input.now written.old part.now }
     requires part_bound { written.old + length part.now < 2 ^ 64 }
-    ensures { written.new ≡ written.old + length part.now }
+    ensures counted { OnOk result (written.new ≡ written.old + length part.now) }
+    ensures all { OnOk result (Appends (W.contents out.old) (W.contents out.new) part.now) }
+    ensures none_counted { OnErr result (written.new ≡ written.old) }
+    ensures front { OnErr result (AppendsFront (W.contents out.old) (W.contents out.new) part.now) }
 {
-    io::write_all(STDOUT_FILENO, part);
+    streams::write_all(out, part)?;
     *written += part.len();
+    Ok(())
 }
 
-// Writes the output for an input to standard output, and says how many bytes it has.
-pub fn run(input: &[u8]) -> usize
-    ensures { result ≡ length (output_of input.now) }
+// Writes the output for an input, and says how many bytes it has. Where a write fails, a front of the output is written, and nothing else.
+pub fn run<W: Write>(out: &mut W, input: &[u8]) -> io::Result<usize>
+    ensures count { IfOk result (λ n. n ≡ length (output_of input.now)) }
+    ensures all { OnOk result (Appends (W.contents out.old) (W.contents out.new) (output_of input.now)) }
+    ensures front { OnErr result (AppendsFront (W.contents out.old) (W.contents out.new) (output_of input.now)) }
 {
     let mut written: usize = 0;
     if Trace::MOST_BYTES < input.len() {
-        put_next(input, &mut written, b"too long\n");
-        return written;
+        put_next(out, input, &mut written, b"too long\n")?;
+        return Ok(written);
     }
-    let mut block = io::large_buffer();
+    let mut block = empty_block();
     let mut point = first_line(input, &mut block);
     loop {
         point = fill(input, point, &mut block);
         let length = point.length;
-        put_next(input, &mut written, &block[..length]);
+        put_next(out, input, &mut written, &block[..length])?;
         if input.len() <= point.next {
-            return written;
+            return Ok(written);
         }
         point = point.emptied();
     }

@@ -2,7 +2,8 @@
 // Input: for each case four bytes length, high byte first, and the input.
 #![tactic(auto)]
 
-use libc::STDIN_FILENO;
+use std::io;
+use std::io::{Read, Write};
 use trace::Trace;
 
 // One byte more than the longest input.
@@ -29,54 +30,72 @@ fn named_length(head: &[u8]) -> usize {
 }
 
 // Reads so many bytes into the front of a buffer, and says whether all came.
-fn fill(buffer: &mut [u8], length: usize) -> bool {
+fn fill<R: Read>(from: &mut R, buffer: &mut [u8], length: usize) -> io::Result<bool> {
     if buffer.len() < length {
-        return false;
+        return Ok(false);
     }
-    io::read_full(STDIN_FILENO, &mut buffer[..length]) == length
+    let count = streams::read_full(from, &mut buffer[..length])?;
+    Ok(count == length)
 }
 
 // The lines of the first bytes of a buffer.
-fn run_front(buffer: &[u8], length: usize) {
+fn run_front<W: Write>(out: &mut W, buffer: &[u8], length: usize) -> io::Result<()> {
     if buffer.len() < length {
-        return;
+        return Ok(());
     }
-    trace::run(&buffer[..length]);
+    trace::run(out, &buffer[..length])?;
+    Ok(())
 }
 
-fn begin_case(case: u64) {
-    printing::put_text(b"case");
-    printing::put_number(case);
-    printing::end_line();
+fn begin_case<W: Write>(out: &mut W, case: u64) -> io::Result<()> {
+    printing::put_text(out, b"case")?;
+    printing::put_number(out, case)?;
+    printing::end_line(out)
 }
 
 // Runs the next case, and says whether there was one.
-fn run_case(case: u64, head: &mut [u8], input: &mut [u8]) -> bool {
-    if !fill(head, HEAD) {
-        return false;
+fn run_case<R: Read, W: Write>(
+    from: &mut R,
+    out: &mut W,
+    case: u64,
+    head: &mut [u8],
+    input: &mut [u8],
+) -> io::Result<bool> {
+    if !fill(from, head, HEAD)? {
+        return Ok(false);
     }
     let length = named_length(head);
-    if !fill(input, length) {
-        return false;
+    if !fill(from, input, length)? {
+        return Ok(false);
     }
-    begin_case(case);
-    run_front(input, length);
-    true
+    begin_case(out, case)?;
+    run_front(out, input, length)?;
+    Ok(true)
 }
 
-fn run_cases(head: &mut [u8], input: &mut [u8]) {
+fn run_cases<R: Read, W: Write>(
+    from: &mut R,
+    out: &mut W,
+    head: &mut [u8],
+    input: &mut [u8],
+) -> io::Result<()> {
     let mut case: u64 = 0;
     while case < MOST_CASES {
         case += 1;
-        if !run_case(case, head, input) {
-            return;
+        if !run_case(from, out, case, head, input)? {
+            return Ok(());
         }
     }
+    Ok(())
 }
 
-fn main() {
-    printing::put_text(b"expected output made by: python3 tests/trace_cases.py\n");
+fn main(rt: HostRuntime) -> io::Result<()> {
+    let mut out = io::writer(&rt);
+    printing::put_text(
+        &mut out,
+        b"expected output made by: python3 tests/trace_cases.py\n",
+    )?;
     let mut head = [0u8; HEAD];
     let mut input = room();
-    run_cases(&mut head, &mut input);
+    run_cases(&mut rt.stdin(), &mut out, &mut head, &mut input)
 }

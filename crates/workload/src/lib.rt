@@ -1,4 +1,5 @@
 // Work for the manager, to be measured: the same as speed/work.c does on the same rules in C. A box around the manager plays its neighbours.
+// C calls it through the crate workload_c.
 // Each function starts a manager with a sheet, has it work for some rounds, and returns a sum of what it handed out.
 #![tactic(auto)]
 
@@ -184,8 +185,7 @@ fn answer_alone(manager: Manager, controllers: u8, rounds: u64) -> u32 {
 }
 
 // Rounds of a box of this style.
-#[unsafe(no_mangle)]
-pub extern "C" fn proved_play(
+pub fn proved_play(
     sheet: &[u8],
     style: u8,
     rounds: u64,
@@ -196,8 +196,7 @@ pub extern "C" fn proved_play(
 }
 
 // Ticks of networks that have come to where they stay in a box of this style.
-#[unsafe(no_mangle)]
-pub extern "C" fn proved_ticks(
+pub fn proved_ticks(
     sheet: &[u8],
     style: u8,
     rounds: u64,
@@ -208,8 +207,7 @@ pub extern "C" fn proved_ticks(
 }
 
 // The same two with a manager that listens.
-#[unsafe(no_mangle)]
-pub extern "C" fn proved_quiet_play(
+pub fn proved_quiet_play(
     sheet: &[u8],
     style: u8,
     rounds: u64,
@@ -219,8 +217,7 @@ pub extern "C" fn proved_quiet_play(
     played.sum
 }
 
-#[unsafe(no_mangle)]
-pub extern "C" fn proved_quiet_ticks(
+pub fn proved_quiet_ticks(
     sheet: &[u8],
     style: u8,
     rounds: u64,
@@ -231,8 +228,7 @@ pub extern "C" fn proved_quiet_ticks(
 }
 
 // Answers of controllers that were asked to stop.
-#[unsafe(no_mangle)]
-pub extern "C" fn proved_answers(
+pub fn proved_answers(
     sheet: &[u8],
     controllers: u8,
     rounds: u64,

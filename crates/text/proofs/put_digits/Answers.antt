@@ -1,0 +1,14 @@
+-- `text::put_digits` meets its contract: what `io::decimal` writes is the decimal text.
+use Rattle.lists.proofs.Basics.{◌∙◌}
+use Rattle.text.proofs.Laws.{decimal_digits}
+use Rattle.text.proofs.put_digits.Goals as goal
+
+pub put_text-requires : goal.put_text-requires
+put_text-requires c =
+    let d = c.decimal-count in
+    rw (d.ensures.digits ∙ decimal_digits c.args.number d.result d.ensures.len) c.requires
+
+pub returns : goal.returns
+returns c =
+    let d = c.decimal-count in
+    rw (d.ensures.digits ∙ decimal_digits c.args.number d.result d.ensures.len) at c.put_text.ensures

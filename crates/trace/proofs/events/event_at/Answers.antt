@@ -1,0 +1,34 @@
+-- `trace::events::event_at` meets its contract: each arm is a case of `read_at`.
+use Rattle.lists.proofs.Basics.{arith, refl, sym, ◌∙◌, rules}
+use Rattle.fields.proofs.Laws.{row_further, read_at}
+use Rattle.trace.specs.Events.{item_at}
+use Rattle.trace.proofs.events.event_at.Goals as goal
+
+pub overflow_add-at : goal.overflow_add-at
+overflow_add-at c =
+    let a = c.args in
+    let r = row_further a.bytes.now a.at _ _ _ (sym c.field_at.ensures ∙ c.in-Whole.is) in
+    omega arith
+
+pub whole_item-item-requires : goal.whole_item-item-requires
+whole_item-item-requires c =
+    let a = c.args in
+    let r = row_further a.bytes.now a.at _ _ _ (sym c.field_at.ensures ∙ c.in-Whole.is) in
+    omega arith
+
+pub returns-in-End : goal.returns-in-End
+unfolding item_at
+returns-in-End c = read_at _ (sym c.field_at.ensures ∙ c.in-End.is) refl refl
+
+pub returns-in-Stub : goal.returns-in-Stub
+unfolding item_at
+returns-in-Stub c = read_at _ (sym c.field_at.ensures ∙ c.in-Stub.is) refl refl
+
+pub returns-in-Overrun : goal.returns-in-Overrun
+unfolding item_at
+returns-in-Overrun c = read_at _ (sym c.field_at.ensures ∙ c.in-Overrun.is) refl refl
+
+pub returns-in-Whole : goal.returns-in-Whole
+unfolding item_at
+returns-in-Whole c =
+    read_at _ (sym c.field_at.ensures ∙ c.in-Whole.is) c.whole_item-item.ensures refl
