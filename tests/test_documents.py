@@ -210,7 +210,7 @@ def find_path(document: str, word: str) -> Optional[Path]:
 
 def is_path(word: str) -> bool:
     """Whether a word in backticks is a path below the root."""
-    return PATH.fullmatch(word) is not None and not word.startswith("target/") and "/out/" not in word
+    return PATH.fullmatch(word) is not None and not word.startswith(("target/", "out/")) and "/out/" not in word
 
 
 def pieces_of(text: str) -> List[str]:
