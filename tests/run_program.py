@@ -1,8 +1,8 @@
 """Runs a built program of this project: as it is on x86-64, through an emulator on another machine.
 
-The toolchain compiles programs for x86-64 Linux. On another machine such a program needs an emulator, `qemu-x86_64`, and the
-loader and C library of x86-64. The toolchain for Arm has all three; it is found as `rt` finds it, by RATTLE_HOME or by the
-place of `rt` on the PATH. An emulator on the PATH is taken first.
+The toolchain compiles programs for x86-64 Linux, and is itself for that machine. On another one such a program needs an emulator, `qemu-x86_64`,
+and the loader and C library of x86-64. Where a toolchain has these three for the machine, they are found by RATTLE_HOME or by the place of `rt` on
+the PATH. An emulator on the PATH is taken first.
 """
 
 import os

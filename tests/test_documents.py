@@ -10,8 +10,8 @@ a list. Names in the first cell of a row whose last cell has only files have to 
 sources. Names after the word "must-fail" are edits, and each edit of the repository has to be named in docs/TRACE.md.
 
 Paths in these two documents may leave out `crates/` in front. In all documents src/, specs/, proofs/ and must-fail/ are folders of the
-crate that the paragraph named last, or of some crate. Words in capitals, as NAME, stand for any name, and what is below `target` is made
-by a build: it is not looked for.
+crate that the paragraph named last, or of some crate. Words in capitals, as NAME, stand for any name, and what is below `target` or in the
+folder `out` of a crate is made by a build: it is not looked for.
 
 Commands are the lines of indented and fenced blocks, up to two blanks in a row, and the words in backticks that begin as a command.
 How each is tried:
@@ -63,8 +63,13 @@ REQUIREMENTS = """
 """.split()
 
 EDIT_FILES = "*/must-fail/*.edit"
+# The folders that a build makes.
+MADE = ("target", "out", "__pycache__")
 CRATE_FOLDERS = ("src/", "specs/", "proofs/", "must-fail/")
-RT_COMMANDS = ("check", "prove", "dev", "staticlib", "try", "must-fail", "ci", "goals", "mir", "fmt", "doc", "version", "selftest", "help")
+RT_COMMANDS = (
+    "all", "check", "ci", "doc", "expand", "fmt", "help", "lemma", "lib", "must-fail", "new", "plant", "run", "seed", "selftest", "test", "tidy",
+    "try", "verdict", "version",
+)
 LONG_COMMANDS = ("./test", "tests/differential", "git ", "speed/", "tools/draw steps", "tools/draw crates")
 COMMAND_STARTS = ("./", "rt ", "python3 ", "sed ", "tests/", "tools/", "speed/", "git ", "printf ", "cat ", "xxd ", "cmp ", "diff ", "bash ")
 SECONDS_OF_A_COMMAND = 60
@@ -92,18 +97,27 @@ def documents() -> Dict[str, str]:
 
 
 @lru_cache(maxsize=None)
+def paths_below(folder: Path) -> List[Path]:
+    """The files and folders below a folder, without what a build makes."""
+    found: List[Path] = []
+    for path in sorted(folder.iterdir()):
+        if path.name not in MADE:
+            found += [path, *(paths_below(path) if path.is_dir() else [])]
+    return found
+
+
+@lru_cache(maxsize=None)
 def text_of(path: Path) -> str:
     """The text of a file, or of all sources below a folder."""
     if path.is_file():
         return path.read_text(encoding="utf-8", errors="replace")
-    files = [file for file in sorted(path.rglob("*")) if file.suffix in (".antt", ".rt", ".py") and "target" not in file.parts]
-    return "\n".join(text_of(file) for file in files)
+    return "\n".join(text_of(file) for file in paths_below(path) if file.suffix in (".antt", ".rt", ".py"))
 
 
 @lru_cache(maxsize=None)
 def all_sources() -> str:
     """All that names can stand in: the crates, the tests but this one, the tools, and the names of files, crates and edits."""
-    names = [path.stem for path in CRATES.rglob("*")]
+    names = [path.stem for path in paths_below(CRATES)]
     tests = [text_of(path) for path in sorted((ROOT / "tests").glob("*.py")) if path.name != Path(__file__).name]
     return "\n".join([text_of(CRATES), text_of(ROOT / "tools"), *tests, *names])
 
@@ -145,7 +159,7 @@ def edit_faults(crate: Path, edit: str) -> Iterator[str]:
 def crates() -> List[str]:
     """The crates of crates.txt."""
     lines = (ROOT / "crates.txt").read_text(encoding="utf-8").splitlines()
-    return [line.split(":")[0].strip() for line in lines if ":" in line and not line.startswith("#")]
+    return [line.split(":")[0].split()[0] for line in lines if ":" in line and not line.startswith("#")]
 
 
 def without_blocks(text: str) -> str:
@@ -196,7 +210,7 @@ def find_path(document: str, word: str) -> Optional[Path]:
 
 def is_path(word: str) -> bool:
     """Whether a word in backticks is a path below the root."""
-    return PATH.fullmatch(word) is not None and not word.startswith("target/")
+    return PATH.fullmatch(word) is not None and not word.startswith(("target/", "out/")) and "/out/" not in word
 
 
 def pieces_of(text: str) -> List[str]:
@@ -207,7 +221,7 @@ def pieces_of(text: str) -> List[str]:
 def has_file_named(name: str) -> bool:
     """Whether some file of the repository has this name."""
     folders = (ROOT, *(ROOT / folder for folder in ("docs", "examples", "speed", "tests", "tools")))
-    return any((folder / name).exists() for folder in folders) or any(CRATES.rglob(name))
+    return any((folder / name).exists() for folder in folders) or any(path.name == name for path in paths_below(CRATES))
 
 
 def path_faults(document: str, text: str) -> List[str]:
@@ -356,7 +370,8 @@ def counted() -> List[Tuple[str, int]]:
     chart = text_of(CRATES / "decisions" / "stdout").splitlines()[1:]
     examples = text_of(CRATES / "network_theorems" / "specs" / "Examples.antt")
     moves = text_of(CRATES / "network_theorems" / "proofs" / "Moves.antt")
-    calls = re.findall(r"^pub use \w+::[a-z_]+;", text_of(CRATES / "manager" / "src" / "lib.rt"), re.MULTILINE)
+    passed_on = re.findall(r"^pub use \w+::(?:\{([^}]*)\}|(\w+));", text_of(CRATES / "manager" / "src" / "lib.rt"), re.MULTILINE)
+    calls = [name for names in passed_on for name in re.findall(r"\w+", "".join(names)) if name.islower()]
     return [
         (r"\b([\d,]+) crates\b", len(crates())),
         (r"\b([\d,]+) must-fail edits", len(list(CRATES.glob(EDIT_FILES)))),
@@ -366,7 +381,7 @@ def counted() -> List[Tuple[str, int]]:
         (r"\b([\d,]+) stored inputs", len(trace_cases.all_cases())),
         (r"\b([\d,]+) decisions", sum(len(line.split()) - 1 for line in chart)),
         (r"\b([\d,]+) computed examples", len(re.findall(r"^ +(?:∷ )?case ", examples, re.MULTILINE))),
-        (r"\b([\d,]+) moves", len(re.findall(r"^  pub (?!by-move)", moves, re.MULTILINE))),
+        (r"\b([\d,]+) moves", len(re.findall(r"^  pub (?!by_move)", moves, re.MULTILINE))),
         (r"\b([\d,]+|[a-z]+) public calls", len(calls)),
         (r"\b([\d,]+|[a-z]+) recordings as scripts", len(list((ROOT / "examples").glob("*.script")))),
         (r"000 numbers ([\d,]+) items", len(REQUIREMENTS)),
@@ -455,10 +470,10 @@ def is_there(program: str) -> bool:
 
 def is_built() -> bool:
     """Whether the program is built, from the sources as they are."""
-    program = ROOT / "target" / "bin" / "cantrace"
+    program = CRATES / "cantrace" / "out" / "cantrace"
     if not program.exists():
         return False
-    sources = [ROOT / "crates.txt", CRATES, *(path for path in CRATES.rglob("*") if "must-fail" not in path.parts)]
+    sources = [ROOT / "crates.txt", *(path for path in paths_below(CRATES) if path.is_file() and "must-fail" not in path.parts)]
     return all(path.stat().st_mtime <= program.stat().st_mtime for path in sources)
 
 
@@ -500,7 +515,7 @@ def command_faults(document: str, command: str, folder: Path) -> List[str]:
 
 def copy_repository(folder: Path) -> None:
     """Copies the repository without what a build makes."""
-    shutil.copytree(ROOT, folder, ignore=shutil.ignore_patterns("target", ".git", "__pycache__"))
+    shutil.copytree(ROOT, folder, ignore=shutil.ignore_patterns(".git", *MADE))
 
 
 def faults_of_commands(commands: Dict[str, str]) -> List[str]:
@@ -628,16 +643,16 @@ class FaultsAreFound(unittest.TestCase):
 
     def test_names(self):
         wrong = [
-            "`handedOut` in `slots/specs/Manager.antt`",
-            "`handedOut`, `noSuchName` in `slots/specs/Calls.antt`",
-            "| `handedOut` | x | `crates/slots/specs/Manager.antt` |",
-            "In `crates/manager_theorems/proofs`.\n\n| `tick-two` | x |",
+            "`handed_out` in `slots/specs/Manager.antt`",
+            "`handed_out`, `no_such_name` in `slots/specs/Calls.antt`",
+            "| `handed_out` | x | `crates/slots/specs/Manager.antt` |",
+            "In `crates/manager_theorems/proofs`.\n\n| `tick_two` | x |",
             "must-fail `no_such_edit`",
-            "`thisStandsNowhere`",
+            "`this_stands_nowhere`",
         ]
         for text in wrong:
             self.assertEqual(len(name_faults(TRACE, text)), 1, text)
-        right = "`handedOut` in `slots/specs/Calls.antt`; `Careful`, `Sound` (`manager_theorems/specs/Careful.antt`); must-fail `fixed_answer`"
+        right = "`handed_out` in `slots/specs/Calls.antt`; `Careful`, `Sound` (`manager_theorems/specs/Careful.antt`); must-fail `fixed_answer`"
         self.assertEqual(name_faults(TRACE, right), [])
 
     def test_requirements(self):

@@ -79,10 +79,10 @@ def shown_figures(text: str, outfit: int, size: int) -> Figures:
 
 @lru_cache(maxsize=None)
 def definitions() -> Dict[str, str]:
-    """What is written behind the name of each figure; `mostRecords` is what bounds the records of a tick."""
+    """What is written behind the name of each figure; `most_records` is what bounds the records of a tick."""
     found = dict(re.findall(r"^(\w+) n = (.*)$", (SPECS / "ComesUp.antt").read_text(encoding="utf-8"), re.MULTILINE))
     (bound,) = re.findall(r"^  pub few : .* ≤ (.*)$", (SPECS / "Promises.antt").read_text(encoding="utf-8"), re.MULTILINE)
-    return {**found, "mostRecords": bound}
+    return {**found, "most_records": bound}
 
 
 def exceeds(relation: Relation, threshold: int, number: int) -> bool:
@@ -91,7 +91,7 @@ def exceeds(relation: Relation, threshold: int, number: int) -> bool:
 
 # The functions that a definition may use, and how many arguments each has.
 FUNCTIONS = {
-    "byOutfit": (4, lambda network, *figures: figures[model.outfit_of(network)]),
+    "by_outfit": (4, lambda network, *figures: figures[model.outfit_of(network)]),
     "max": (2, max),
     "cond": (3, lambda test, yes, no: yes if test else no),
     "exceeds": (3, exceeds),
@@ -105,7 +105,7 @@ class Reader:
     def __init__(self, network: Settings, text: str):
         self.network = network
         self.text = text
-        self.tokens = re.findall(r"n \.\w+|\w+|\S", text)
+        self.tokens = re.findall(r"n\.\w+|\w+|\S", text)
 
     def value(self) -> int:
         found = self.sum()
@@ -147,8 +147,8 @@ class Reader:
             return found if self.next_is(")") else self.failed("a bracket")
         network, token = self.network, self.tokens.pop(0) if self.tokens else "the end"
         values = {
-            "n": network, "n .count": len(network.controllers), "n .short": network.short_delay, "n .long": network.long_delay,
-            "n .threshold": network.threshold, "n .relation": network.relation,
+            "n": network, "n.count": len(network.controllers), "n.short": network.short_delay, "n.long": network.long_delay,
+            "n.threshold": network.threshold, "n.relation": network.relation,
         }
         return int(token) if token.isdigit() else values[token] if token in values else self.failed(token)
 
@@ -162,7 +162,7 @@ def defined(name: str, network: Settings) -> int:
 
 
 def defined_figures(network: Settings) -> Figures:
-    names = ("ticksFromRest", "recordsFromRest", "ticksFromStart", "recordsFromStart", "mostTicks", "mostRecords")
+    names = ("ticks_from_rest", "records_from_rest", "ticks_from_start", "records_from_start", "most_ticks", "most_records")
     return Figures(*(defined(name, network) for name in names))
 
 
@@ -254,9 +254,9 @@ class TheFigures(unittest.TestCase):
     def test_the_statements_are_tried_with_the_defined_figures(self):
         """With every outfit, size, rule for the threshold, and delay that is the longer one."""
         figures = {
-            "ticksFromRest": promises.ticks_from_rest, "recordsFromRest": promises.records_from_rest, "ticksToRest": promises.ticks_to_rest,
-            "ticksFromStart": promises.ticks_from_start, "recordsFromStart": promises.records_from_start,
-            "longestDelay": promises.longest_delay, "mostTicks": promises.most_ticks,
+            "ticks_from_rest": promises.ticks_from_rest, "records_from_rest": promises.records_from_rest, "ticks_to_rest": promises.ticks_to_rest,
+            "ticks_from_start": promises.ticks_from_start, "records_from_start": promises.records_from_start,
+            "longest_delay": promises.longest_delay, "most_ticks": promises.most_ticks,
         }
         for outfit, size, relation, threshold, (short, long) in product(
             model.ALL_OUTFITS, SIZES, Relation, range(4), ((1, 2), (2, 1), (3, 20), (20, 3))
@@ -275,8 +275,8 @@ class TheFigures(unittest.TestCase):
 
     def test_another_form_is_refused(self):
         network = network_of(Outfit.TRANSCEIVER, 2)
-        self.assertEqual(Reader(network, "3 * n .count + max (byOutfit n 2 3 4) (ticksToRest n + 1)").value(), 11)
-        for text in ("n .count - 1", "min 2 3", "(3 + 4", "3 4", "ticksToRest", "n .ensure", "", "max 2"):
+        self.assertEqual(Reader(network, "3 * n.count + max (by_outfit n 2 3 4) (ticks_to_rest n + 1)").value(), 11)
+        for text in ("n.count - 1", "min 2 3", "(3 + 4", "3 4", "ticks_to_rest", "n.ensure", "", "max 2"):
             self.assertRaises(ValueError, Reader(network, text).value)
 
 

@@ -36,7 +36,10 @@ called="{name} $*"
 echo "$called" >>"{folder}/calls"
 . "{folder}/script"
 """
-GOOD_GATE = 'case $called in "rt ci") echo "rt: ok, 2 crates proved"; echo "2 passed, 0 failed" ;; esac'
+# What the gate says where all is well.
+GATE_OK = "rt: ok; handles allowed: none; must-fail edits: 1 refused; every proof and must-fail edit was done in this run"
+GATE_LINES = 'case $called in "rt ci") echo "{}"; echo "2 passed, 0 failed" ;; esac'
+GOOD_GATE = GATE_LINES.format(GATE_OK)
 QUICK_CALLS = [
     "python3 -B -m unittest discover -q -s tests",
     "python3 -B tests/sheet_cases.py --check",
@@ -44,7 +47,6 @@ QUICK_CALLS = [
     "python3 -B tests/manager_cases.py --check",
     "python3 -B tests/examples.py --check",
     "python3 -B tests/trace_cases.py --check",
-    "rt fmt --check",
 ]
 COMPARISONS = [
     "differential 4000",
@@ -107,7 +109,7 @@ class GateTest(FakedTest):
         self.assertEqual(output[-1], "2 passed, 0 failed")
         self.assertEqual([line for line in output if "passed" in line], ["2 passed, 0 failed"])
         self.assertEqual(self.calls(), [*QUICK_CALLS, "rt ci", *COMPARISONS])
-        self.assertLess(output.index("rt: ok, 2 crates proved"), output.index("output of differential 4000"))
+        self.assertLess(output.index(GATE_OK), output.index("output of differential 4000"))
 
     def test_a_failing_gate_is_shown_whole_and_nothing_follows(self):
         failing = 'case $called in "rt ci") echo "rt: FAILED: steps"; echo "1 passed, 1 failed"; exit 3 ;; esac'
@@ -115,6 +117,26 @@ class GateTest(FakedTest):
         self.assertEqual((status, said), (3, []))
         self.assertEqual(output[-2:], ["rt: FAILED: steps", "1 passed, 1 failed"])
         self.assertEqual(self.calls(), [*QUICK_CALLS, "rt ci"])
+
+    def test_edits_that_could_not_be_tried_fail(self):
+        for edits, passes in (
+            ("1 refused", True), ("154 refused, 3 of them only by a limit", True), ("1 refused, 1 bad", False),
+            ("154 refused, 3 of them only by a limit, 12 bad", False), ("0 refused, 1 bad", False),
+        ):
+            (self.folder / "calls").write_text("", encoding="utf-8")
+            status, output, said = self.run_test(GATE_LINES.format(GATE_OK.replace("1 refused", edits)))
+            if passes:
+                self.assertEqual((status, output[-1], said), (0, "2 passed, 0 failed", []), edits)
+            else:
+                self.assertEqual((status, said), (1, [f"test: FAILED: must-fail edits: {edits}"]), edits)
+                self.assertEqual([line for line in output if "passed" in line], [], edits)
+                self.assertEqual(self.calls(), [*QUICK_CALLS, "rt ci"])
+
+    def test_a_gate_that_tells_nothing_of_edits_fails(self):
+        for line in ("rt: note: nothing", "rt: ok; handles allowed: none; every proof and must-fail edit was done in this run"):
+            status, output, said = self.run_test(GATE_LINES.format(line))
+            self.assertEqual((status, said), (1, ["test: FAILED: the gate did not say how many must-fail edits were refused"]))
+            self.assertEqual([line for line in output if "passed" in line], [])
 
     def test_a_gate_that_ends_without_a_word_fails_too(self):
         status, output, _ = self.run_test('case $called in "rt ci") exit 2 ;; esac')

@@ -745,7 +745,8 @@ class DifferentialTest(unittest.TestCase):
         folder = tempfile.TemporaryDirectory()
         self.addCleanup(folder.cleanup)
         self.root = Path(folder.name)
-        (self.root / "target" / "bin").mkdir(parents=True)
+        for crate in ("cantrace", "trace_cases"):
+            (self.root / "crates" / crate / "out").mkdir(parents=True)
         shutil.copytree(TESTS_FOLDER, self.root / "tests", ignore=shutil.ignore_patterns("__pycache__", "*.txt"))
 
     def fake(self, path, batch, fault="pass"):
@@ -757,8 +758,8 @@ class DifferentialTest(unittest.TestCase):
 
     def fakes(self, fault="pass"):
         """All programs; only the one for batches has the fault."""
-        self.fake("target/bin/trace_cases", True, fault)
-        self.fake("target/bin/cantrace", False)
+        self.fake("crates/trace_cases/out/trace_cases", True, fault)
+        self.fake("crates/cantrace/out/cantrace", False)
         self.fake("cantrace", False)
 
     def run_differential(self, *arguments):
@@ -816,8 +817,8 @@ class DifferentialTest(unittest.TestCase):
     def test_what_is_not_there_is_named(self):
         status, printed = self.run_differential()
         self.assertEqual(2, status)
-        self.assertIn("target/bin/trace_cases", printed)
-        self.assertIn("rt check cantrace trace_cases", printed)
+        self.assertIn("crates/trace_cases/out/trace_cases", printed)
+        self.assertIn("cd crates/trace_cases && rt run", printed)
 
     def test_wrong_arguments(self):
         for arguments in (("many",), ("0",), ("1", "2", "3")):

@@ -39,10 +39,10 @@ SETTINGS = [
 
 
 def uses_of(text: str) -> Dict[str, List[str]]:
-    """Each crate of the list and the crates that it uses, in the order of the list; `#` begins a comment."""
+    """Each crate of the list and the crates that it uses, in the order of the list; `#` begins a comment, and more words may follow the name."""
     lines = (line.split("#")[0] for line in text.splitlines())
     pairs = (line.split(":") for line in lines if line.strip())
-    return {name.strip(): used.split() for name, used in pairs}
+    return {name.split()[0]: used.split() for name, used in pairs}
 
 
 def reached(uses: Dict[str, List[str]], crate: str) -> Set[str]:
