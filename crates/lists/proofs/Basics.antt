@@ -9,7 +9,7 @@ pub use mathlib.Core.Bool.{Bool, true, false, cond, not, ◌&&◌, ◌||◌, fal
 pub use mathlib.Core.List.{List, [], ◌∷◌, ◌++◌, append_assoc, append-nil, map, map-append}
 pub use lib.Dec.{eqb, ltb, leb}
 pub use lib.ListN.{length, take, drop, get_or, set, replicate, length-take, length-drop, length-append, length-set, length-map, length-replicate}
-pub use lib.ListN.{take-append-drop, get_or-eq_default as List·getD-eq-default}
+pub use lib.ListN.{take-append-drop, get_or-eq_default}
 pub use lib.Seq.{sets, sets-eq, length-sets, length-take-le, take_all, take-append_seam, drop-append_seam, drop-drop, append_snoc}
 pub use lib.Seq.{get_or-set_same, get_or-set_other, get_or-take, get_or-drop}
 pub use borrow.Author.Rules.{rules}

@@ -1,6 +1,6 @@
 -- Laws of events: the value of a field at its place, and what a whole field says by its first bytes.
 use Rattle.lists.proofs.Basics.{ℕ, ◌+◌, ◌≤◌, arith, ◌≡◌, refl, sym, ap, subst, ◌∙◌, List, [], length, get_or, take, drop, length-drop}
-use Rattle.lists.proofs.Basics.{List·getD-eq-default, length-take-le}
+use Rattle.lists.proofs.Basics.{get_or-eq_default, length-take-le}
 use Rattle.records.specs.Records.{bytes}
 use Rattle.slots.specs.declared.Manager.{Manager}
 use Rattle.slots.specs.declared.Outcome.{Outcome}
@@ -15,7 +15,7 @@ value_length s at n h = length-take-le n (drop at s) (simp length-drop (omega ar
 
 -- past the value there is no byte
 pub value_over : (s : List ℕ) (at n i : ℕ) → at + n ≤ length s → n ≤ i → get_or (take n (drop at s)) i 0 ≡ 0
-value_over s at n i h k = List·getD-eq-default (take n (drop at s)) 0 (rw (value_length s at n h) k)
+value_over s at n i h k = get_or-eq_default (take n (drop at s)) 0 (rw (value_length s at n h) k)
 
 -- ---- item_of
 -- a whole field whose value begins at a place, by its first bytes
