@@ -1,6 +1,6 @@
 -- The fields of a settings sheet: what a field says, the tests at it that need no settings, and the number of each refusal of a sheet. The rules
 -- S4 to S9, S15 to S18 and S27 of docs/RULES.md.
-use Rattle.std.specs.Prelude.{ℕ, ◌+◌, ◌*◌, List, Bool, cond, eqb, ltb, length, get_or}
+use Rattle.std.specs.Prelude.{ℕ, ◌+◌, ◌*◌, List, cond, eqb, ltb, length, get_or}
 use Rattle.fields.specs.Fields.{Row, stop, stub, overrun, field}
 use Rattle.entries.specs.declared.Fault.{Fault}
 use Rattle.entries.specs.declared.Fault.TheVariants.{Cut, UnknownTag, WrongLength, OutOfOrder, OutOfRange, UsedBefore, TooMany, NoTransceiver}

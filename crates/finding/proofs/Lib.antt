@@ -1,4 +1,1 @@
-pub mod Element
-pub mod OneSlot
-pub mod Lent
 pub mod Searching

@@ -1,7 +1,7 @@
 // Which slot of a manager has an id. The manager is lent, and looked at where it stands: one network's settings are copied at a time.
 #![tactic(auto)]
 
-ghost use Rattle.std.specs.Prelude.{◌≡◌, ◌<◌};
+ghost use Rattle.std.specs.Prelude.{length, ◌≡◌, ◌<◌};
 ghost use Rattle.slots.specs.Manager.{network_at};
 ghost use Rattle.slots.specs.Calls.{unknown, slot_of};
 ghost use Rattle.finding.specs.Search.{reach_of, begun, goes_on, tried_with, slot_found};
@@ -108,10 +108,18 @@ fn tried_in(manager: &Manager, search: Search, id: Id) -> Search
     tried(search, manager.networks[next], id)
 }
 
+// A manager has eight slots: what its type says, as it is seen where a slot is read.
+fn has_eight_slots(manager: &Manager)
+    ensures { length manager.now.networks ≡ 8 }
+{
+    let _first = manager.networks[0];
+}
+
 // R7, R10 to R12: the slot of the first network that has this id, in a started manager that is lent.
 pub fn slot_in(manager: &Manager, id: Id) -> Slot
     ensures { result ≡ slot_of manager.now id }
 {
+    has_eight_slots(manager);
     let stage = manager.stage;
     let mut search = begin(stage, manager.count);
     while goes_on(search) {

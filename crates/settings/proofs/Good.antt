@@ -1,6 +1,6 @@
 -- What `Good` says: a network's controllers are as many as it counts; and ids that are used once: what the reader tests of each id, and what `Good`
 -- says of all of them, are the same.
-use Rattle.lists.proofs.Basics.{ℕ, ◌+◌, ◌<◌, arith, ◌≡◌, refl, sym, ap, subst, ◌∙◌, List, [], ◌∷◌, ◌++◌, append-nil, append_assoc, false, or-false}
+use Rattle.lists.proofs.Basics.{ℕ, ◌<◌, arith, ◌≡◌, refl, sym, ap, subst, ◌∙◌, List, [], ◌∷◌, ◌++◌, append-nil, append_assoc, false, or-false}
 use Rattle.lists.proofs.Basics.{append_snoc, length}
 use Rattle.lists.specs.Lists.{any}
 use Rattle.lists.proofs.Any.{any_append}

@@ -4,7 +4,6 @@ use Rattle.lists.specs.Lists.{any, first}
 use Rattle.lists.proofs.Any.{any_found, first_found}
 use Rattle.settings.specs.declared.Network.{Network}
 use Rattle.settings.specs.declared.Id.{Id}
-use Rattle.settings.specs.declared.Holder.{Holder}
 use Rattle.settings.specs.declared.Holder.TheVariants.{At, Nobody}
 use Rattle.settings.specs.Settings.{has, used, holder_of}
 

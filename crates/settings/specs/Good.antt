@@ -1,8 +1,7 @@
 -- Settings that a sheet can say: every range of the table of fields, and no id twice. The rules S4 to S11 and S22 of docs/RULES.md. Unused slots are
 -- blank, so that settings have one form.
-use Rattle.std.specs.Prelude.{ℕ, ◌<◌, ◌≤◌, ◌≡◌, List, [], ◌∷◌, ◌++◌, Bool, true, false}
+use Rattle.std.specs.Prelude.{ℕ, ◌<◌, ◌≤◌, ◌≡◌, List, [], ◌∷◌, ◌++◌, true, false}
 use Rattle.lists.specs.Lists.{padded}
-use Rattle.settings.specs.declared.Transceiver.{Transceiver}
 use Rattle.settings.specs.declared.Transceiver.TheVariants.{Absent}
 use Rattle.settings.specs.declared.Network.{Network}
 use Rattle.settings.specs.declared.Settings.{Settings}

@@ -1,5 +1,5 @@
 -- `calling::make` meets its contract, by what each call of the manager promises and nothing else.
-use Rattle.lists.proofs.Basics.{refl, rules}
+use Rattle.lists.proofs.Basics.{refl}
 use Rattle.calling.proofs.Laws.{returned}
 use Rattle.calling.proofs.make.Goals as goal
 

@@ -1,6 +1,5 @@
 -- `deciding::decide` meets its contract.
 use mathlib.Core.Path.{sym, ◌∙◌}
-use borrow.Author.Rules.{rules}
 use Rattle.steps.specs.Decision.{decision}
 use Rattle.deciding.proofs.decide.Goals as goal
 

@@ -1,5 +1,5 @@
 -- `fields::field_at` meets its contract: each answer is what `front` gives of the bytes at their places.
-use Rattle.lists.proofs.Basics.{rules, arith, ◌≤◌, sym, refl, length}
+use Rattle.lists.proofs.Basics.{arith, ◌≤◌, sym, refl, length}
 use lib.ListN.{drop_of_length-le}
 use Rattle.fields.specs.Fields.{front}
 use Rattle.fields.proofs.Laws.{front_short, front_overrun, front_fits}

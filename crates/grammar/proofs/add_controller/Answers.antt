@@ -1,5 +1,5 @@
 -- `grammar::add_controller` meets its contract.
-use Rattle.lists.proofs.Basics.{refl, rules}
+use Rattle.lists.proofs.Basics.{refl}
 use Rattle.entries.specs.Grammar.{add_controller}
 use Rattle.grammar.proofs.add_controller.Goals as goal
 

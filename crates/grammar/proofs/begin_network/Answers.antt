@@ -1,5 +1,4 @@
 -- `grammar::begin_network` meets its contract.
-use Rattle.lists.proofs.Basics.{rules}
 use Rattle.entries.specs.Grammar.{begun}
 use Rattle.settings.specs.Settings.{blank_network}
 use Rattle.grammar.proofs.begin_network.Goals as goal

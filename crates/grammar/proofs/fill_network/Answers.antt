@@ -1,5 +1,4 @@
 -- `grammar::fill_network` meets its contract.
-use Rattle.lists.proofs.Basics.{rules}
 use Rattle.entries.specs.Grammar.{fills}
 use Rattle.grammar.proofs.fill_network.Goals as goal
 

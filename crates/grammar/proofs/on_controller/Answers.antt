@@ -1,5 +1,5 @@
 -- `grammar::on_controller` meets its contract.
-use Rattle.lists.proofs.Basics.{lt-leb, le-leb, sym, ◌∙◌, rules}
+use Rattle.lists.proofs.Basics.{lt-leb, le-leb, sym, ◌∙◌}
 use Rattle.entries.specs.Grammar.{on_controller}
 use Rattle.grammar.proofs.on_controller.Goals as goal
 

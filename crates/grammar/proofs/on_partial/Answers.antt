@@ -1,5 +1,5 @@
 -- `grammar::on_partial` meets its contract.
-use Rattle.lists.proofs.Basics.{eq-eqb, ne_eqb, sym, ◌∙◌, rules}
+use Rattle.lists.proofs.Basics.{eq-eqb, ne_eqb, sym, ◌∙◌}
 use Rattle.entries.specs.Grammar.{on_partial}
 use Rattle.grammar.proofs.on_partial.Goals as goal
 

@@ -1,5 +1,5 @@
 -- `grammar::on_relation` meets its contract.
-use Rattle.lists.proofs.Basics.{arith, eq-eqb, ne_eqb, ◌≡◌, sym, ◌∙◌, rules}
+use Rattle.lists.proofs.Basics.{arith, eq-eqb, ne_eqb, ◌≡◌, sym, ◌∙◌}
 use Rattle.entries.specs.Grammar.{on_relation}
 use Rattle.grammar.proofs.on_relation.Goals as goal
 

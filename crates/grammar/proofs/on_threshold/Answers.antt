@@ -1,5 +1,5 @@
 -- `grammar::on_threshold` meets its contract.
-use Rattle.lists.proofs.Basics.{◌≤◌, ◌<◌, arith, lt-leb, le-leb, sym, ◌∙◌, rules}
+use Rattle.lists.proofs.Basics.{◌≤◌, ◌<◌, arith, lt-leb, le-leb, sym, ◌∙◌}
 use Rattle.entries.specs.Grammar.{on_threshold}
 use Rattle.grammar.proofs.on_threshold.Goals as goal
 

@@ -1,5 +1,5 @@
 -- `grammar::on_transceiver` meets its contract.
-use Rattle.lists.proofs.Basics.{lt-leb, le-leb, sym, ◌∙◌, rules}
+use Rattle.lists.proofs.Basics.{lt-leb, le-leb, sym, ◌∙◌}
 use Rattle.entries.specs.Grammar.{on_transceiver}
 use Rattle.grammar.proofs.on_transceiver.Goals as goal
 

@@ -1,5 +1,4 @@
 -- `grammar::open_network` meets its contract.
-use Rattle.lists.proofs.Basics.{rules}
 use Rattle.entries.specs.Grammar.{opens}
 use Rattle.grammar.proofs.open_network.Goals as goal
 

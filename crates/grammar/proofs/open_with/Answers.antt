@@ -1,5 +1,5 @@
 -- `grammar::open_with` meets its contract.
-use Rattle.lists.proofs.Basics.{lt-leb, le-leb, sym, ◌∙◌, rules}
+use Rattle.lists.proofs.Basics.{lt-leb, le-leb, sym, ◌∙◌}
 use Rattle.entries.specs.Grammar.{opens_with}
 use Rattle.grammar.proofs.open_with.Goals as goal
 

@@ -1,5 +1,5 @@
 -- `grammar::takes_relation` meets its contract: the last network is the one before the first slot that is not in use.
-use Rattle.lists.proofs.Basics.{◌-◌, suc, arith, ◌≡◌, refl, sym, ap, ◌∙◌, length, length-map, length-take, take, rules}
+use Rattle.lists.proofs.Basics.{◌-◌, suc, arith, ◌≡◌, refl, sym, ◌∙◌, length, length-take, take, rules}
 use Rattle.lists.specs.Lists.{lastly}
 use Rattle.lists.proofs.Any.{lastly_take}
 use Rattle.settings.specs.declared.Network.{Network}

@@ -3,7 +3,6 @@ use Rattle.steps.specs.Steps.{asks_for}
 use Rattle.steps.specs.After.{first_down}
 use Rattle.records.proofs.Laws.{wrote_then, room_first, room_next}
 use Rattle.handing.specs.Handing.{requests, down_notices, going_down}
-use Rattle.lists.proofs.Basics.{rules}
 use Rattle.handing.proofs.put_down.Goals as goal
 
 pub put_down_notices-next-requires : goal.put_down_notices-next-requires

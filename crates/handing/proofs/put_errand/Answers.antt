@@ -1,6 +1,5 @@
 -- `handing::put_errand` meets its contract.
 use Rattle.records.proofs.Laws.{wrote_none}
-use Rattle.lists.proofs.Basics.{rules}
 use Rattle.handing.proofs.put_errand.Goals as goal
 
 pub returns-in-Absent : goal.returns-in-Absent

@@ -1,5 +1,5 @@
 -- `handing::put_online` meets its contract.
-use Rattle.lists.proofs.Basics.{ap, ◌∙◌, rules}
+use Rattle.lists.proofs.Basics.{ap, ◌∙◌}
 use Rattle.steps.specs.Steps.{online_phase}
 use Rattle.handing.proofs.Laws.{online_room, online_wrote, online_quiet}
 use Rattle.handing.proofs.put_online.Goals as goal

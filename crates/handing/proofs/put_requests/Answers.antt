@@ -1,7 +1,6 @@
 -- `handing::put_requests` meets its contract, by what is asked for.
 use Rattle.records.proofs.Laws.{wrote_none}
 use Rattle.handing.specs.Handing.{requests}
-use Rattle.lists.proofs.Basics.{rules}
 use Rattle.handing.proofs.put_requests.Goals as goal
 
 pub put_round-requires : goal.put_round-requires

@@ -1,8 +1,6 @@
 -- `handing::put_round` meets its contract: after i controllers the buffer has the records of the first i.
-use Rattle.lists.proofs.Basics.{◌-◌, ◌<◌, ◌≤◌, min, arith, rules, ◌≡◌, refl, ◌∙◌, map, map-append, length, take}
-use Rattle.lists.proofs.Parts.{take_min}
-use Rattle.records.specs.Wrote.{Wrote}
-use Rattle.records.proofs.Laws.{wrote_none, wrote_length, wrote_more, room_more}
+use Rattle.lists.proofs.Basics.{◌-◌, ◌<◌, arith, rules, ◌≡◌, refl, ◌∙◌, map, map-append, length}
+use Rattle.records.proofs.Laws.{wrote_none, wrote_length, wrote_more}
 use Rattle.handing.specs.Handing.{round_record}
 use Rattle.handing.proofs.put_round.Goals as goal
 

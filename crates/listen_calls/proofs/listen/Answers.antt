@@ -1,5 +1,5 @@
 -- `listen_calls::listen` meets its contract.
-use Rattle.lists.proofs.Basics.{rules, refl, sym, ap, ◌∙◌}
+use Rattle.lists.proofs.Basics.{refl, sym, ap, ◌∙◌}
 use Rattle.lent_calls.proofs.Ticks.{gate_shut, open_roomy}
 use Rattle.listen_calls.proofs.Online.{listen_open}
 use Rattle.slots.specs.Calls.{gate_of, outcome, by_rules}

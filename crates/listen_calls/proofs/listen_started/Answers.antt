@@ -1,5 +1,4 @@
 -- `listen_calls::listen_started` meets its contract.
-use Rattle.lists.proofs.Basics.{rules}
 use Rattle.listen_calls.proofs.Online.{value_refused, value_taken}
 use Rattle.listen_calls.proofs.listen_started.Goals as goal
 

@@ -1,9 +1,8 @@
 -- `listen_calls::put_all_online` meets its contract: after i networks the buffer has what is handed out for them.
-use Rattle.lists.proofs.Basics.{◌-◌, ◌≤◌, ◌<◌, arith, ◌≡◌, refl, ◌∙◌, length, take, rules}
+use Rattle.lists.proofs.Basics.{◌-◌, ◌<◌, arith, ◌≡◌, refl, ◌∙◌, length, rules}
 use Rattle.lists.proofs.Parts.{unmapped}
-use Rattle.records.specs.Wrote.{Wrote}
 use Rattle.records.proofs.Laws.{wrote_length}
-use Rattle.slots.specs.Manager.{gathered, controller_count, listen_needs}
+use Rattle.slots.specs.Manager.{controller_count, listen_needs}
 use Rattle.lent_calls.proofs.Gathered.{gathered_none, gather_room, gather_wrote}
 use Rattle.listen_calls.proofs.Online.{online_of, online_fits, online_end}
 use Rattle.listen_calls.proofs.put_all_online.Goals as goal

@@ -1,5 +1,5 @@
 -- `listen_calls::set_listening` meets its contract.
-use Rattle.lists.proofs.Basics.{rules, ap, ◌∙◌}
+use Rattle.lists.proofs.Basics.{ap, ◌∙◌}
 use Rattle.slots.specs.declared.Manager.{Manager}
 use Rattle.slots.specs.Manager.{accepted}
 use Rattle.listen_calls.proofs.Online.{all_fit, listened_anew, listened_same}

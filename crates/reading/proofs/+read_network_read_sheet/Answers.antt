@@ -1,12 +1,8 @@
 -- `reading::read_sheet` and `reading::read_network`, which call each other, meet their contracts: an entry that is taken brings the reader further,
 -- and what follows is what the rules make of the entry.
-use Rattle.lists.proofs.Basics.{◌≡◌, ◌-◌, ◌<◌, ◌^◌, sym, ap, ◌∙◌, arith, rules, ℕ, List, length}
-use Rattle.fields.specs.Fields.{row_at}
-use Rattle.settings.specs.declared.Network.{Network}
-use Rattle.settings.specs.declared.Settings.{Settings}
-use Rattle.sheet.specs.declared.Reading.{Reading}
-use Rattle.sheet.specs.Reading.{sheet, network, after_opening, after_filling, pushed}
-use Rattle.reading.proofs.Steps.{Further, sheet_by, network_by, opens_fits, fills_fits, fills_further, begins_further, amends_further, fewer_left}
+use Rattle.lists.proofs.Basics.{◌≡◌, ◌-◌, ◌<◌, ◌^◌, sym, ◌∙◌, rules, length}
+use Rattle.sheet.specs.Reading.{after_opening, after_filling}
+use Rattle.reading.proofs.Steps.{sheet_by, network_by, opens_fits, fills_fits, fills_further, begins_further, amends_further, fewer_left}
 use Rattle.reading.proofs.+read_network_read_sheet.Goals as goal
 
 -- ---- within a network

@@ -1,6 +1,5 @@
 -- `reading::read_from` meets its contract: the sheet begins with nothing read.
-use Rattle.sheet.specs.Reading.{read_from, sheet}
-use Rattle.fields.specs.Fields.{row_at}
+use Rattle.sheet.specs.Reading.{read_from}
 use Rattle.reading.proofs.read_from.Goals as goal
 
 pub returns : goal.returns

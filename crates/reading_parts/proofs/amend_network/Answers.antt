@@ -1,5 +1,5 @@
 -- `reading_parts::amend_network` meets its contract: the last network is the one before the first slot that is not in use.
-use Rattle.lists.proofs.Basics.{ℕ, ◌-◌, ◌<◌, arith, ◌≡◌, refl, ap, ◌∙◌, length, get_or, length-map, length-take, rules}
+use Rattle.lists.proofs.Basics.{ℕ, ◌-◌, ◌<◌, arith, ◌≡◌, refl, ap, ◌∙◌, length, get_or, length-take, rules}
 use Rattle.lists.proofs.Parts.{get_d_any}
 use Rattle.settings.specs.Settings.{blank_network}
 use Rattle.entries.specs.Grammar.{add_relation}

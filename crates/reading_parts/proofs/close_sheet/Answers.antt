@@ -1,5 +1,5 @@
 -- `reading_parts::close_sheet` meets its contract.
-use Rattle.lists.proofs.Basics.{eq-eqb, ne_eqb, rules}
+use Rattle.lists.proofs.Basics.{eq-eqb, ne_eqb}
 use Rattle.sheet.specs.Reading.{closed}
 use Rattle.reading_parts.proofs.close_sheet.Goals as goal
 

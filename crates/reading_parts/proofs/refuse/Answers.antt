@@ -1,5 +1,4 @@
 -- `reading_parts::refuse` meets its contract.
-use Rattle.lists.proofs.Basics.{rules}
 use Rattle.sheet.specs.Reading.{refused_at}
 use Rattle.reading_parts.proofs.refuse.Goals as goal
 

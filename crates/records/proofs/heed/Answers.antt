@@ -1,7 +1,5 @@
 -- `records::heed` meets its contract: after k records the first k are as they go out.
-use Rattle.lists.proofs.Basics.{◌-◌, ◌≤◌, arith, ◌≡◌, refl, ◌∙◌, length, map, true, rules}
-use Rattle.records.specs.Records.{records_at, turned}
-use Rattle.records.specs.Wrote.{Wrote}
+use Rattle.lists.proofs.Basics.{◌-◌, arith, ◌≡◌, refl, ◌∙◌, true}
 use Rattle.records.proofs.Laws.{wrote_length, heed_begins, heed_more, heed_done, heed_none}
 use Rattle.records.proofs.heed.Goals as goal
 

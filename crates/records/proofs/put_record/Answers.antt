@@ -1,5 +1,5 @@
 -- `records::put_record` meets its contract: its three stores are the bytes of one record.
-use Rattle.lists.proofs.Basics.{arith, length-set, rules}
+use Rattle.lists.proofs.Basics.{rules}
 use Rattle.records.proofs.Laws.{stored_one}
 use Rattle.records.proofs.put_record.Goals as goal
 

@@ -1,8 +1,6 @@
 -- `writing::put_controllers` meets its contract: the fields of the first `i` controllers are stored.
-use Rattle.lists.proofs.Basics.{ℕ, ◌-◌, ◌≤◌, arith, rules, ◌≡◌, List, [], length, take}
-use Rattle.lists.specs.Stores.{Stored}
-use Rattle.lists.proofs.Parts.{take_min}
-use Rattle.lists.proofs.Stores.{stored_none, stored_length, stored_more, room_more}
+use Rattle.lists.proofs.Basics.{ℕ, ◌-◌, arith, rules, ◌≡◌, List, [], length}
+use Rattle.lists.proofs.Stores.{stored_none, stored_more, room_more}
 use Rattle.sheet.specs.Encode.{encode_controllers}
 use Rattle.sheet.proofs.Writes.{controllers_append}
 use Rattle.writing.proofs.put_controllers.Goals as goal

@@ -1,5 +1,5 @@
 -- `writing::put_network` meets its contract: its fields one after the other are the network.
-use Rattle.lists.proofs.Basics.{arith, [], rules}
+use Rattle.lists.proofs.Basics.{arith, []}
 use Rattle.lists.proofs.Stores.{stored_then}
 use Rattle.sheet.proofs.Writes.{network_fields, length_parts}
 use Rattle.writing.proofs.put_network.Goals as goal

@@ -1,8 +1,7 @@
 -- `writing::put_networks` meets its contract: the first `i` networks are stored.
-use Rattle.lists.proofs.Basics.{◌-◌, ◌≤◌, arith, rules, ◌≡◌, ap, ◌∙◌, List, [], length, take, length-map, sets}
-use Rattle.lists.specs.Stores.{Stored}
+use Rattle.lists.proofs.Basics.{◌-◌, arith, rules, ◌≡◌, ap, ◌∙◌, List, [], length, sets}
 use Rattle.lists.proofs.Parts.{take_min}
-use Rattle.lists.proofs.Stores.{stored_none, stored_length, stored_more, room_more}
+use Rattle.lists.proofs.Stores.{stored_none, stored_more, room_more}
 use Rattle.settings.specs.declared.Network.{Network}
 use Rattle.sheet.specs.Encode.{encode_networks, encode}
 use Rattle.sheet.proofs.Writes.{networks_append}

@@ -1,5 +1,5 @@
 -- `writing::put_relation` meets its contract: field 07, or nothing.
-use Rattle.lists.proofs.Basics.{arith, ◌≡◌, refl, [], length, rules}
+use Rattle.lists.proofs.Basics.{arith, ◌≡◌, refl, [], length}
 use Rattle.lists.proofs.Stores.{stored_none}
 use Rattle.sheet.specs.Encode.{encode_relation}
 use Rattle.writing.proofs.put_relation.Goals as goal

@@ -1,5 +1,5 @@
 -- `writing::put_transceiver` meets its contract: field 03, or nothing.
-use Rattle.lists.proofs.Basics.{arith, ◌≡◌, refl, [], length, rules}
+use Rattle.lists.proofs.Basics.{arith, ◌≡◌, refl, [], length}
 use Rattle.lists.proofs.Stores.{stored_none}
 use Rattle.sheet.specs.Encode.{encode_transceiver}
 use Rattle.writing.proofs.put_transceiver.Goals as goal

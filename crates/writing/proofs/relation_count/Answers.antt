@@ -1,5 +1,5 @@
 -- `writing::relation_count` meets its contract.
-use Rattle.lists.proofs.Basics.{arith, refl, rules}
+use Rattle.lists.proofs.Basics.{rules}
 use Rattle.sheet.specs.Encode.{encode_relation}
 use Rattle.writing.proofs.relation_count.Goals as goal
 

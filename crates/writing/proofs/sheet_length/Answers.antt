@@ -1,5 +1,5 @@
 -- `writing::sheet_length` meets its contract: the total is the length of the first `i` networks, of at most 45 bytes each.
-use Rattle.lists.proofs.Basics.{◌*◌, ◌-◌, ◌≤◌, arith, rules, ◌≡◌, refl, ap, ◌∙◌, List, [], length, take, length-map}
+use Rattle.lists.proofs.Basics.{◌-◌, arith, rules, ◌≡◌, refl, ap, ◌∙◌, List, [], length}
 use Rattle.lists.proofs.Parts.{take_min}
 use Rattle.lists.proofs.Stores.{length_more}
 use Rattle.settings.specs.declared.Network.{Network}

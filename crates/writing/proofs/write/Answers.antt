@@ -1,5 +1,5 @@
 -- `writing::write` meets its contract: refused before the first store, or written from the front.
-use Rattle.lists.proofs.Basics.{arith, rules}
+use Rattle.lists.proofs.Basics.{arith}
 use Rattle.sheet.proofs.Writes.{refused_untouched, written_from_front}
 use Rattle.writing.proofs.write.Goals as goal
 

@@ -1,5 +1,5 @@
 -- `entries::values::entry_at` meets its contract: each arm is a case of `read_at`.
-use Rattle.lists.proofs.Basics.{arith, refl, sym, ap, ◌∙◌, rules}
+use Rattle.lists.proofs.Basics.{arith, refl, sym, ap, ◌∙◌}
 use Rattle.fields.proofs.Laws.{row_further, read_at}
 use Rattle.entries.specs.declared.Entry.TheVariants.{Bad}
 use Rattle.entries.specs.Entries.{entry_at}

@@ -1,6 +1,5 @@
 -- `entries::values::times_entry` meets its contract.
 use Rattle.entries.proofs.Laws.{times_at}
-use Rattle.lists.proofs.Basics.{rules}
 use Rattle.entries.proofs.values.times_entry.Goals as goal
 
 pub returns : goal.returns

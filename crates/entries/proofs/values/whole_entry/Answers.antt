@@ -1,5 +1,5 @@
 -- `entries::values::whole_entry` meets its contract.
-use Rattle.lists.proofs.Basics.{◌+◌, arith, ◌≡◌, refl, sym, ap, ◌∙◌, length, rules}
+use Rattle.lists.proofs.Basics.{◌+◌, arith, ◌≡◌, refl, sym, ap, ◌∙◌}
 use Rattle.entries.specs.Entries.{whole_entry, byte_entry}
 use Rattle.entries.proofs.Laws.{layout_byte, layout_times, entry_whole, value_byte}
 use Rattle.entries.proofs.values.whole_entry.Goals as goal

@@ -1,5 +1,5 @@
 -- `lent_calls::ticking::tick` meets its contract.
-use Rattle.lists.proofs.Basics.{rules, refl, sym, ap, ◌∙◌}
+use Rattle.lists.proofs.Basics.{refl, sym, ap, ◌∙◌}
 use Rattle.lent_calls.proofs.Ticks.{gate_shut, gate_open, open_roomy}
 use Rattle.slots.specs.Calls.{gate_of, all_ticked, outcome, by_rules}
 use Rattle.lent_calls.proofs.ticking.tick.Goals as goal

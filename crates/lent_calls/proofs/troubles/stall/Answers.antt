@@ -1,5 +1,5 @@
 -- `lent_calls::troubles::stall` meets its contract.
-use Rattle.lists.proofs.Basics.{rules, refl, sym, ◌∙◌}
+use Rattle.lists.proofs.Basics.{refl, sym, ◌∙◌}
 use Rattle.lent_calls.proofs.Ticks.{gate_shut, open_roomy, trouble_open}
 use Rattle.network.specs.declared.Trouble.{Trouble}
 use Rattle.slots.specs.Calls.{outcome, by_rules}

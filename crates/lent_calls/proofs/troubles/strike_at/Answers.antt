@@ -1,5 +1,4 @@
 -- `lent_calls::troubles::strike_at` meets its contract.
-use Rattle.lists.proofs.Basics.{rules}
 use Rattle.lent_calls.proofs.Ticks.{hit_room, slot_struck}
 use Rattle.lent_calls.proofs.troubles.strike_at.Goals as goal
 

@@ -1,6 +1,5 @@
 -- `lent_calls::troubles::strike_started` meets its contract.
-use Rattle.lists.proofs.Basics.{rules}
-use Rattle.lent_calls.proofs.Ticks.{slot_shut, slot_open}
+use Rattle.lent_calls.proofs.Ticks.{slot_shut}
 use Rattle.lent_calls.proofs.troubles.strike_started.Goals as goal
 
 pub returns-in-Refused : goal.returns-in-Refused

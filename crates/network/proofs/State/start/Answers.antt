@@ -1,5 +1,4 @@
 -- `network::State::start` meets its contract.
-use Rattle.lists.proofs.Basics.{rules}
 use Rattle.network.specs.State.{started}
 use Rattle.network.proofs.State.start.Goals as goal
 

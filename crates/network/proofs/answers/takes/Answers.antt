@@ -1,5 +1,4 @@
 -- `network::answers::takes` meets its contract.
-use Rattle.lists.proofs.Basics.{rules}
 use Rattle.network.specs.Answers.{takes_report}
 use Rattle.network.proofs.answers.takes.Goals as goal
 

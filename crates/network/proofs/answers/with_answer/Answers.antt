@@ -1,8 +1,7 @@
 -- `network::answers::with_answer` meets its contract: none of the first `i` controllers is the one that answers.
-use Rattle.lists.proofs.Basics.{ℕ, ◌-◌, ◌<◌, ◌≤◌, arith, rules, ne_eqb, ◌≡◌, refl, false, eqb, length, take}
+use Rattle.lists.proofs.Basics.{ℕ, ◌-◌, ◌<◌, arith, rules, ne_eqb, ◌≡◌, refl, false, eqb, length}
 use Rattle.lists.specs.Lists.{any}
 use Rattle.lists.proofs.Any.{any_more, any_end}
-use Rattle.settings.specs.Settings.{member}
 use Rattle.network.proofs.Laws.{answer_found, answer_none}
 use Rattle.network.proofs.answers.with_answer.Goals as goal
 

@@ -1,5 +1,5 @@
 -- `network::parts::answer_part` meets its contract.
-use Rattle.lists.proofs.Basics.{rules, lt-ltb, le-ltb}
+use Rattle.lists.proofs.Basics.{lt-ltb, le-ltb}
 use Rattle.network.specs.Parts.{answer_part}
 use Rattle.network.proofs.parts.answer_part.Goals as goal
 

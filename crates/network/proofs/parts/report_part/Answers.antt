@@ -1,5 +1,4 @@
 -- `network::parts::report_part` meets its contract.
-use Rattle.lists.proofs.Basics.{rules}
 use Rattle.network.specs.Parts.{report_part}
 use Rattle.network.proofs.parts.report_part.Goals as goal
 

@@ -1,5 +1,5 @@
 -- `network::parts::request_part` meets its contract.
-use Rattle.lists.proofs.Basics.{ℕ, ◌≡◌, rules, sym, ap, ◌∙◌}
+use Rattle.lists.proofs.Basics.{ℕ, ◌≡◌, sym, ap, ◌∙◌}
 use Rattle.records.specs.declared.NamedMode.{NamedMode}
 use Rattle.records.specs.Records.{mode_named, by_named}
 use Rattle.network.specs.declared.Refusal.{Refusal}

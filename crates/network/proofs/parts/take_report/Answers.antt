@@ -1,5 +1,5 @@
 -- `network::parts::take_report` meets its contract.
-use Rattle.lists.proofs.Basics.{sym, ◌∙◌, rules}
+use Rattle.lists.proofs.Basics.{sym, ◌∙◌}
 use Rattle.network.specs.Parts.{taken_part}
 use Rattle.network.proofs.parts.take_report.Goals as goal
 

@@ -1,5 +1,5 @@
 -- `network::parts::want_mode` meets its contract.
-use Rattle.lists.proofs.Basics.{rules, sym, ◌∙◌}
+use Rattle.lists.proofs.Basics.{sym, ◌∙◌}
 use Rattle.network.specs.Parts.{wanted_part}
 use Rattle.network.proofs.parts.want_mode.Goals as goal
 

@@ -1,5 +1,5 @@
 -- `network_ticks::moving::after_move` meets its contract.
-use Rattle.lists.proofs.Basics.{sym, ◌∙◌, rules}
+use Rattle.lists.proofs.Basics.{sym, ◌∙◌}
 use Rattle.network.specs.Moving.{after_move}
 use Rattle.network_ticks.proofs.moving.after_move.Goals as goal
 

@@ -1,5 +1,5 @@
 -- `network_ticks::ticking::all_okay` meets its contract: none of the first `i` answers fails.
-use Rattle.lists.proofs.Basics.{◌-◌, ◌<◌, ◌≤◌, arith, rules, ◌≡◌, refl, sym, ap, ◌∙◌, Bool, not, false, length, take}
+use Rattle.lists.proofs.Basics.{◌-◌, ◌<◌, arith, rules, ◌≡◌, refl, sym, ap, ◌∙◌, Bool, not, false, length}
 use Rattle.lists.specs.Lists.{any}
 use Rattle.lists.proofs.Any.{any_more, any_found, any_end, every_true, every_false}
 use Rattle.lists.proofs.Parts.{unmapped}

@@ -1,9 +1,8 @@
 -- `network_ticks::ticking::any_refused` meets its contract: none of the first `i` answers is a refusal.
-use Rattle.lists.proofs.Basics.{◌-◌, ◌<◌, ◌≤◌, arith, rules, ◌≡◌, refl, sym, ◌∙◌, false, length, take}
+use Rattle.lists.proofs.Basics.{◌-◌, ◌<◌, arith, rules, ◌≡◌, refl, sym, ◌∙◌, false, length}
 use Rattle.lists.specs.Lists.{any}
-use Rattle.lists.proofs.Any.{any_more, any_found, any_end}
+use Rattle.lists.proofs.Any.{any_more, any_found}
 use Rattle.lists.proofs.Parts.{unmapped}
-use Rattle.network.specs.declared.Heard.{Heard}
 use Rattle.network.specs.Rules.{is_refusal}
 use Rattle.network_ticks.proofs.ticking.any_refused.Goals as goal
 

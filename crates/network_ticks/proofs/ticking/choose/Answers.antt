@@ -1,5 +1,5 @@
 -- `network_ticks::ticking::choose` meets its contract.
-use Rattle.lists.proofs.Basics.{sym, ap, ◌∙◌, rules}
+use Rattle.lists.proofs.Basics.{sym, ap, ◌∙◌}
 use Rattle.steps.specs.Steps.{asks_to_sleep}
 use Rattle.network_ticks.proofs.Laws.{move_refused, move_awake}
 use Rattle.network_ticks.proofs.ticking.choose.Goals as goal

@@ -1,5 +1,5 @@
 -- `network_ticks::ticking::delay_of` meets its contract.
-use Rattle.lists.proofs.Basics.{sym, ◌∙◌, rules}
+use Rattle.lists.proofs.Basics.{sym, ◌∙◌}
 use Rattle.network.specs.Rules.{delay_of}
 use Rattle.network_ticks.proofs.ticking.delay_of.Goals as goal
 

@@ -1,5 +1,5 @@
 -- `network_ticks::ticking::is_done` meets its contract.
-use Rattle.lists.proofs.Basics.{sym, ◌∙◌, rules}
+use Rattle.lists.proofs.Basics.{sym, ◌∙◌}
 use Rattle.network.specs.Rules.{is_done}
 use Rattle.network_ticks.proofs.ticking.is_done.Goals as goal
 

@@ -1,6 +1,5 @@
 -- `network_ticks::ticking::tick` meets its contract.
 use Rattle.network_ticks.proofs.Laws.{tick_room, tick_gives}
-use Rattle.lists.proofs.Basics.{rules}
 use Rattle.network_ticks.proofs.ticking.tick.Goals as goal
 
 pub put_move-next-requires : goal.put_move-next-requires

@@ -1,5 +1,5 @@
 -- `network_troubles::striking::anew` meets its contract.
-use Rattle.lists.proofs.Basics.{ℕ, ◌≡◌, ap, List, false, rules}
+use Rattle.lists.proofs.Basics.{ℕ, ◌≡◌, ap, List, false}
 use Rattle.records.specs.declared.Mode.{Mode}
 use Rattle.steps.specs.declared.Step.{Step}
 use Rattle.network.specs.declared.Heard.{Heard}

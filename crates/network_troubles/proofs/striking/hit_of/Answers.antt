@@ -1,5 +1,5 @@
 -- `network_troubles::striking::hit_of` meets its contract.
-use Rattle.lists.proofs.Basics.{sym, ap, ◌∙◌, rules}
+use Rattle.lists.proofs.Basics.{sym, ap, ◌∙◌}
 use Rattle.steps.specs.Steps.{asks_to_start}
 use Rattle.network.specs.BusOff.{hit_of}
 use Rattle.network_troubles.proofs.striking.hit_of.Goals as goal

@@ -1,5 +1,4 @@
 -- `network_troubles::striking::hit_part` meets its contract.
-use Rattle.lists.proofs.Basics.{rules}
 use Rattle.network.specs.Parts.{hit_part}
 use Rattle.network.specs.BusOff.{after_hit}
 use Rattle.network_troubles.proofs.striking.hit_part.Goals as goal

@@ -1,5 +1,5 @@
 -- `network_troubles::striking::stall_of` meets its contract.
-use Rattle.lists.proofs.Basics.{sym, ◌∙◌, rules}
+use Rattle.lists.proofs.Basics.{sym, ◌∙◌}
 use Rattle.network.specs.BusOff.{stall_of}
 use Rattle.network_troubles.proofs.striking.stall_of.Goals as goal
 

@@ -1,5 +1,4 @@
 -- `network_troubles::striking::strike` meets its contract.
-use Rattle.lists.proofs.Basics.{rules}
 use Rattle.network_troubles.proofs.Laws.{room_recover, room_reset, struck_recover, struck_restart, struck_reset, struck_not_taken}
 use Rattle.network_troubles.proofs.striking.strike.Goals as goal
 

@@ -1,5 +1,4 @@
 -- `quiet_calls::answering::check_done` meets its contract.
-use Rattle.lists.proofs.Basics.{rules}
 use Rattle.slots.specs.Calls.{outcome}
 use Rattle.quiet_calls.proofs.answering.check_done.Goals as goal
 

@@ -1,5 +1,4 @@
 -- `quiet_calls::answering::clear_done` meets its contract.
-use Rattle.lists.proofs.Basics.{rules}
 use Rattle.slots.specs.Calls.{outcome}
 use Rattle.quiet_calls.proofs.answering.clear_done.Goals as goal
 

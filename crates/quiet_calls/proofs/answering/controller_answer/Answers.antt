@@ -1,5 +1,5 @@
 -- `quiet_calls::answering::controller_answer` meets its contract.
-use Rattle.lists.proofs.Basics.{rules, refl, ◌∙◌}
+use Rattle.lists.proofs.Basics.{refl, ◌∙◌}
 use Rattle.quiet_calls.proofs.Laws.{slot_refused, slot_settled}
 use Rattle.slots.specs.Calls.{outcome, named}
 use Rattle.network.specs.Parts.{an_answer, answer_part, part_of, records_of}

@@ -1,5 +1,5 @@
 -- `quiet_calls::answering::take_report` meets its contract.
-use Rattle.lists.proofs.Basics.{rules, refl, ap, ◌∙◌}
+use Rattle.lists.proofs.Basics.{refl, ap, ◌∙◌}
 use Rattle.quiet_calls.proofs.Laws.{slot_refused, slot_settled}
 use Rattle.slots.specs.Calls.{named}
 use Rattle.network.specs.Parts.{a_report, report_part, part_of, records_of}

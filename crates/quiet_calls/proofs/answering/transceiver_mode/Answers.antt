@@ -1,5 +1,4 @@
 -- `quiet_calls::answering::transceiver_mode` meets its contract.
-use Rattle.lists.proofs.Basics.{rules}
 use Rattle.slots.specs.Calls.{outcome}
 use Rattle.quiet_calls.proofs.answering.transceiver_mode.Goals as goal
 

@@ -1,5 +1,5 @@
 -- `quiet_calls::requesting::poll` meets its contract.
-use Rattle.lists.proofs.Basics.{rules, sym, ◌∙◌}
+use Rattle.lists.proofs.Basics.{sym, ◌∙◌}
 use Rattle.slots.specs.Calls.{outcome}
 use Rattle.quiet_calls.proofs.requesting.poll.Goals as goal
 

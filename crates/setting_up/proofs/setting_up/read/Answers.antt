@@ -1,5 +1,5 @@
 -- `setting_up::setting_up::read` meets its contract.
-use Rattle.lists.proofs.Basics.{rules, ap, ◌∙◌}
+use Rattle.lists.proofs.Basics.{ap, ◌∙◌}
 use Rattle.slots.specs.Calls.{after_reading, read_into, outcome}
 use Rattle.sheet.specs.declared.Reading.{Reading}
 use Rattle.setting_up.proofs.setting_up.read.Goals as goal

@@ -1,5 +1,4 @@
 -- `setting_up::setting_up::write` meets its contract.
-use Rattle.lists.proofs.Basics.{rules}
 use Rattle.slots.specs.Calls.{outcome, written_into}
 use Rattle.setting_up.proofs.setting_up.write.Goals as goal
 

@@ -1,5 +1,5 @@
 -- `setting_up::setting_up::write_sheet` meets its contract.
-use Rattle.lists.proofs.Basics.{rules, ap, ◌∙◌}
+use Rattle.lists.proofs.Basics.{ap, ◌∙◌}
 use Rattle.setting_up.proofs.Laws.{written_in_room}
 use Rattle.slots.specs.Calls.{after_writing}
 use Rattle.setting_up.proofs.setting_up.write_sheet.Goals as goal

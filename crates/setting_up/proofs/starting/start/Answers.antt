@@ -1,5 +1,5 @@
 -- `setting_up::starting::start` meets its contract.
-use Rattle.lists.proofs.Basics.{rules, sym, ap, ◌∙◌, false}
+use Rattle.lists.proofs.Basics.{sym, ap, ◌∙◌, false}
 use Rattle.slots.specs.declared.Manager.{Manager}
 use Rattle.slots.specs.Manager.{with_listening, accepted}
 use Rattle.slots.specs.Calls.{outcome}

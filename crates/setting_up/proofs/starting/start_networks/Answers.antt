@@ -1,5 +1,5 @@
 -- `setting_up::starting::start_networks` meets its contract: the records of the first `i` networks are at the start.
-use Rattle.lists.proofs.Basics.{◌-◌, ◌<◌, ◌≤◌, arith, rules, ◌≡◌, ap, ◌∙◌, List, length, take, length-set}
+use Rattle.lists.proofs.Basics.{◌-◌, ◌<◌, arith, rules, ◌≡◌, ap, ◌∙◌, List, length, length-set}
 use Rattle.lists.proofs.Parts.{unmapped, take_min}
 use Rattle.settings.specs.declared.Network.{Network}
 use Rattle.network.specs.declared.State.{State}

@@ -1,8 +1,7 @@
 -- `settings::Network::has_controller` meets its contract: none of the first `i` ids is the one looked for.
-use Rattle.lists.proofs.Basics.{ℕ, ◌-◌, ◌<◌, ◌≤◌, arith, rules, eq-eqb, ne_eqb, ◌≡◌, refl, sym, false, eqb, length, take}
+use Rattle.lists.proofs.Basics.{ℕ, ◌<◌, arith, rules, eq-eqb, ne_eqb, ◌≡◌, refl, sym, eqb, length}
 use Rattle.lists.specs.Lists.{any}
-use Rattle.lists.proofs.Any.{any_more, any_found, any_end}
-use Rattle.settings.specs.Settings.{member}
+use Rattle.lists.proofs.Any.{any_more, any_found}
 use Rattle.settings.proofs.Network.has_controller.Goals as goal
 
 pub loop-i-init : goal.loop-i-init

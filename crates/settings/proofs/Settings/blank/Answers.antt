@@ -1,5 +1,5 @@
 -- `settings::Settings::blank` meets its contract.
-use Rattle.lists.proofs.Basics.{ap, replicate, rules}
+use Rattle.lists.proofs.Basics.{ap, replicate}
 use Rattle.settings.specs.declared.Network.{Network}
 use Rattle.settings.specs.declared.Settings.{Settings}
 use Rattle.settings.specs.Settings.{blank_settings}

@@ -1,5 +1,5 @@
 -- `settings::Settings::holder` meets its contract: none of the first `i` networks has the id.
-use Rattle.lists.proofs.Basics.{◌-◌, ◌≤◌, arith, rules, ◌≡◌, refl, sym, ◌∙◌, false, length, length-map, take}
+use Rattle.lists.proofs.Basics.{arith, rules, ◌≡◌, refl, sym, ◌∙◌, length}
 use Rattle.lists.specs.Lists.{any}
 use Rattle.lists.proofs.Any.{any_more, any_end}
 use Rattle.settings.specs.Settings.{has}

@@ -1,5 +1,5 @@
 -- `settings::Settings::uses` meets its contract.
-use Rattle.lists.proofs.Basics.{sym, ◌∙◌, rules}
+use Rattle.lists.proofs.Basics.{sym, ◌∙◌}
 use Rattle.settings.specs.Settings.{networks_of}
 use Rattle.settings.proofs.Laws.{used_held, used_not_held}
 use Rattle.settings.proofs.Settings.uses.Goals as goal

@@ -1,5 +1,5 @@
 -- `slots::finding::slot_of` meets its contract.
-use Rattle.lists.proofs.Basics.{rules, sym, ◌∙◌}
+use Rattle.lists.proofs.Basics.{sym, ◌∙◌}
 use Rattle.slots.specs.Calls.{slot_of}
 use Rattle.slots.proofs.finding.slot_of.Goals as goal
 

@@ -1,5 +1,5 @@
 -- `slots::room::gate_of` meets its contract.
-use Rattle.lists.proofs.Basics.{rules, lt-ltb, le-ltb}
+use Rattle.lists.proofs.Basics.{lt-ltb, le-ltb}
 use Rattle.slots.specs.Calls.{gate_of}
 use Rattle.slots.proofs.room.gate_of.Goals as goal
 

@@ -1,5 +1,4 @@
 -- `slots::room::listen_needs` meets its contract.
-use Rattle.lists.proofs.Basics.{rules}
 use Rattle.slots.specs.Manager.{needs_of, listen_needs}
 use Rattle.slots.proofs.room.listen_needs.Goals as goal
 

@@ -1,7 +1,6 @@
 -- `slots::room::needs_of` meets its contract: after i networks the total is the sum of the shares of the first i.
-use Rattle.lists.proofs.Basics.{◌*◌, ◌-◌, ◌≤◌, ◌<◌, min, arith, ◌≡◌, length, take, rules}
+use Rattle.lists.proofs.Basics.{◌-◌, ◌<◌, min, arith, ◌≡◌, length, rules}
 use Rattle.lists.proofs.Parts.{unmapped}
-use Rattle.slots.specs.Manager.{share_in, summed}
 use Rattle.slots.proofs.Shares.{summed_none, summed_more, needs_end}
 use Rattle.slots.proofs.room.needs_of.Goals as goal
 

@@ -1,5 +1,4 @@
 -- `slots::room::tick_needs` meets its contract.
-use Rattle.lists.proofs.Basics.{rules}
 use Rattle.slots.specs.Manager.{needs_of, tick_needs}
 use Rattle.slots.proofs.room.tick_needs.Goals as goal
 

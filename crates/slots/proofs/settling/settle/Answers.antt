@@ -1,5 +1,4 @@
 -- `slots::settling::settle` meets its contract.
-use Rattle.lists.proofs.Basics.{rules}
 use Rattle.slots.specs.Calls.{settled}
 use Rattle.slots.proofs.settling.settle.Goals as goal
 

@@ -1,5 +1,5 @@
 -- `trace::events::event_at` meets its contract: each arm is a case of `read_at`.
-use Rattle.lists.proofs.Basics.{arith, refl, sym, ◌∙◌, rules}
+use Rattle.lists.proofs.Basics.{arith, refl, sym, ◌∙◌}
 use Rattle.fields.proofs.Laws.{row_further, read_at}
 use Rattle.trace.specs.Events.{item_at}
 use Rattle.trace.proofs.events.event_at.Goals as goal

@@ -1,5 +1,5 @@
 -- `trace::events::event_of` meets its contract: where the tag is known, all tests of it compute.
-use Rattle.lists.proofs.Basics.{◌∙◌, ne_eqb, rules}
+use Rattle.lists.proofs.Basics.{◌∙◌, ne_eqb}
 use Rattle.trace.specs.Events.{event_of}
 use Rattle.trace.proofs.events.event_of.Goals as goal
 

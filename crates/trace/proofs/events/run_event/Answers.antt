@@ -1,8 +1,7 @@
 -- `trace::events::run_event` meets its contract.
-use Rattle.lists.proofs.Basics.{refl, ap, rules}
-use Rattle.slots.specs.Calls.{bus_off, stall, tick, listen, by_rules, handed_out}
-use Rattle.trace.specs.Events.{call_of}
-use Rattle.trace.proofs.EventLaws.{quiet_gives, lent_gives}
+use Rattle.lists.proofs.Basics.{refl}
+use Rattle.slots.specs.Calls.{by_rules, handed_out}
+use Rattle.trace.proofs.EventLaws.{quiet_gives}
 use Rattle.trace.proofs.events.run_event.Goals as goal
 
 pub returns-in-Request : goal.returns-in-Request

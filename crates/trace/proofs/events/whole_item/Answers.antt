@@ -1,5 +1,4 @@
 -- `trace::events::whole_item` meets its contract.
-use Rattle.lists.proofs.Basics.{rules}
 use Rattle.trace.proofs.EventLaws.{item_whole}
 use Rattle.trace.proofs.events.whole_item.Goals as goal
 

@@ -1,5 +1,5 @@
 -- `trace::lines::event_line` meets its contract.
-use Rattle.lists.proofs.Basics.{arith, refl, rules}
+use Rattle.lists.proofs.Basics.{arith, refl}
 use Rattle.lists.proofs.Stores.{stored_none}
 use Rattle.trace.specs.declared.Item.{Item}
 use Rattle.trace.proofs.Telling.{tells_item, tells_at}

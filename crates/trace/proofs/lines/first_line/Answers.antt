@@ -1,5 +1,5 @@
 -- `trace::lines::first_line` meets its contract.
-use Rattle.lists.proofs.Basics.{sym, length-take-le, rules}
+use Rattle.lists.proofs.Basics.{sym, length-take-le}
 use Rattle.trace.proofs.Splits.{events_within}
 use Rattle.trace.proofs.Telling.{first_accepted, first_refused}
 use Rattle.trace.proofs.lines.first_line.Goals as goal

@@ -1,5 +1,5 @@
 -- `trace::lines::put_answer` meets its contract.
-use Rattle.lists.proofs.Basics.{arith, rules}
+use Rattle.lists.proofs.Basics.{arith}
 use Rattle.lists.proofs.Stores.{stored_then}
 use Rattle.trace.proofs.lines.put_answer.Goals as goal
 

@@ -1,5 +1,5 @@
 -- `trace::lines::put_config` meets its contract.
-use Rattle.lists.proofs.Basics.{arith, rules}
+use Rattle.lists.proofs.Basics.{arith}
 use Rattle.lists.proofs.Stores.{stored_then}
 use Rattle.trace.specs.Lines.{config_line}
 use Rattle.trace.proofs.lines.put_config.Goals as goal

@@ -1,5 +1,5 @@
 -- `trace::lines::put_said` meets its contract.
-use Rattle.lists.proofs.Basics.{arith, rules}
+use Rattle.lists.proofs.Basics.{arith}
 use Rattle.lists.proofs.Stores.{stored_then}
 use Rattle.trace.specs.Lines.{said_of}
 use Rattle.trace.proofs.lines.put_said.Goals as goal

@@ -1,5 +1,5 @@
 -- `trace::lines::put_stop` meets its contract.
-use Rattle.lists.proofs.Basics.{arith, rules}
+use Rattle.lists.proofs.Basics.{arith}
 use Rattle.lists.proofs.Stores.{stored_then}
 use Rattle.trace.specs.Lines.{stop_line}
 use Rattle.trace.proofs.lines.put_stop.Goals as goal

@@ -1,6 +1,5 @@
 -- `trace::lines::tell` meets its contract.
-use Rattle.lists.proofs.Basics.{arith, rules, ap}
-use Rattle.lists.proofs.Stores.{stored_length}
+use Rattle.lists.proofs.Basics.{arith, ap}
 use Rattle.slots.specs.declared.Outcome.{Outcome}
 use Rattle.trace.specs.declared.Item.{Item}
 use Rattle.trace.proofs.Telling.{event_fits, event_stored, tells_item}

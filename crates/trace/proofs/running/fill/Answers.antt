@@ -4,7 +4,7 @@ use Rattle.lists.proofs.Stores.{stored_length}
 use Rattle.trace.specs.declared.Point.{Point}
 use Rattle.trace.specs.Trace.{next_at, point_after, over, full}
 use Rattle.trace.proofs.Telling.{next_further}
-use Rattle.trace.proofs.Blocks.{SoFar, so_far_none, so_far_more, so_far_done}
+use Rattle.trace.proofs.Blocks.{so_far_none, so_far_more, so_far_done}
 use Rattle.trace.proofs.running.fill.Goals as goal
 
 -- the next event stands further on

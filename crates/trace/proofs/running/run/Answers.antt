@@ -1,12 +1,12 @@
 -- `trace::running::run` meets its contract: what stands in the block waits to be written, and after it come the lines that are left. What came
 -- before it in the output is written.
-use Rattle.lists.proofs.Basics.{arith, sym, ap, subst, ◌∙◌, List, length, take}
-use Rattle.std.proofs.Common.{ℕ, take_all}
+use Rattle.lists.proofs.Basics.{arith, sym, ap, subst, ◌∙◌, length, take}
+use Rattle.std.proofs.Common.{take_all}
 use Rattle.std.specs.Io.KnownBytes.{Appends}
 use Rattle.std.proofs.KnownBytes.{Appends-nil}
 use Rattle.streams.specs.Streams.{AppendsFront}
 use Rattle.trace.specs.declared.Point.{Point}
-use Rattle.trace.proofs.Blocks.{long_output, first_waits, filled_next, filled_fits, all_written, waits_on, waits_again}
+use Rattle.trace.proofs.Blocks.{long_output, first_waits, filled_next, all_written, waits_on, waits_again}
 use Rattle.trace.proofs.Writes.{on_err, part_gained, front_gained}
 use Rattle.trace.proofs.running.run.Goals as goal
 
@@ -58,9 +58,8 @@ loop-point-smaller g c =
 
 pub loop-point-preserved : goal.loop-point-preserved
 loop-point-preserved g c =
-    let counted = c.in_ok-put_next-2.ensures.counted in
-    (
+    let counted = c.in_ok-put_next-2.ensures.counted in (
       waits_again c.loop-point.invariant.0 c.fill-point.ensures counted c.emptied-point.ensures c.if-input-point.false,
       part_gained _ _ _ _ _ _ _ c.loop-point.invariant.1 (filled_next c.loop-point.invariant.0 c.fill-point.ensures)
-      c.in_ok-put_next-2.ensures.all counted,
+          c.in_ok-put_next-2.ensures.all counted,
     )
