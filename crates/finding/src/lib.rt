@@ -1,7 +1,7 @@
 // Which slot of a manager has an id. The manager is lent, and looked at where it stands: one network's settings are copied at a time.
 #![tactic(auto)]
 
-ghost use Rattle.std.specs.Prelude.{length, ◌≡◌, ◌<◌};
+ghost use Rattle.std.specs.Prelude.{ℕ, length, ◌≡◌, ◌<◌};
 ghost use Rattle.slots.specs.Manager.{network_at};
 ghost use Rattle.slots.specs.Calls.{unknown, slot_of};
 ghost use Rattle.finding.specs.Search.{reach_of, begun, goes_on, tried_with, slot_found};
@@ -117,7 +117,8 @@ fn has_eight_slots(manager: &Manager)
 
 // R7, R10 to R12: the slot of the first network that has this id, in a started manager that is lent.
 pub fn slot_in(manager: &Manager, id: Id) -> Slot
-    ensures { result ≡ slot_of manager.now id }
+    ensures found { result ≡ slot_of manager.now id }
+    ensures below { (i : ℕ) → result ≡ Slot.At i → i < 8 }
 {
     has_eight_slots(manager);
     let stage = manager.stage;

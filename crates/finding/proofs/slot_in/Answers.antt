@@ -1,6 +1,6 @@
 -- `finding::slot_in` meets its contract, by what the search knows.
 use Rattle.lists.proofs.Basics.{subst, sym, ◌∙◌}
-use Rattle.finding.proofs.Searching.{Facts, begins, steps, ends}
+use Rattle.finding.proofs.Searching.{Facts, begins, steps, ends, slot_below}
 use Rattle.finding.proofs.slot_in.Goals as goal
 
 pub loop-search-init : goal.loop-search-init
@@ -13,8 +13,15 @@ loop-search-preserved c =
     subst (Facts c.args.id m) (sym c.tried_in-search.ensures)
     (steps c.args.id m c.loop-search.search c.loop-search.invariant eight (sym c.goes_on.ensures ∙ c.loop-search-test.true))
 
-pub returns : goal.returns
-returns c =
+pub returns-clause-found : goal.returns-clause-found
+returns-clause-found c =
     let m = c.args.manager.now in
     let eight = c.has_eight_slots.ensures in
     c.slot_found.ensures ∙ ends c.args.id m c.loop-search.search c.loop-search.invariant eight (sym c.goes_on.ensures ∙ c.loop-search-test.false)
+
+pub returns-clause-below : goal.returns-clause-below
+returns-clause-below c =
+    let m = c.args.manager.now in
+    let eight = c.has_eight_slots.ensures in
+    let found = c.slot_found.ensures ∙ ends c.args.id m c.loop-search.search c.loop-search.invariant eight (sym c.goes_on.ensures ∙ c.loop-search-test.false) in
+    λ i e. slot_below c.args.id m eight i (sym found ∙ e)
