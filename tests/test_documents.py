@@ -627,7 +627,8 @@ class FaultsAreFound(unittest.TestCase):
 
     def test_paths(self):
         self.assertEqual(len(path_faults("README.md", "`crates/nothing/src` `tests/nothing.py` `Nothing.antt` `manager/src/lib.rt`")), 4)
-        self.assertEqual(path_faults(TRACE, "`manager/src/lib.rt`, `crates/NAME/must-fail/*.edit`, `target/bin/x`, `Careful.antt`"), [])
+        right = "`manager/src/lib.rt`, `crates/NAME/must-fail/*.edit`, `target/bin/x`, `crates/cantrace/out/x`, `out/NAME`, `Careful.antt`"
+        self.assertEqual(path_faults(TRACE, right), [])
 
     def test_edits(self):
         with tempfile.TemporaryDirectory() as folder:

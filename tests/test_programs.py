@@ -242,6 +242,19 @@ class ProgressTest(FakedTest):
         self.assertEqual(self.run_cantrace(PROVING), (0, ["the program"], []))
         self.assertEqual(self.calls().count("rt run"), 1)
 
+    def test_it_is_built_again_where_a_source_is_newer(self):
+        source, made = self.folder / "crates" / "low" / "src" / "lib.rt", self.folder / "crates" / "low" / "out" / "stdout"
+        for path in (source, made):
+            path.parent.mkdir(parents=True)
+            path.touch()
+        self.run_cantrace(PROVING)
+        program = self.folder / "crates" / "cantrace" / "out" / "cantrace"
+        later = program.stat().st_mtime + 10
+        for path, builds in ((made, 1), (source.parent.parent, 1), (source, 2)):
+            os.utime(path, (later, later))
+            self.run_cantrace(PROVING)
+            self.assertEqual(self.calls().count("rt run"), builds, path)
+
     def test_a_failing_build_says_where_the_log_is(self):
         status, output, said = self.run_cantrace(FAILING)
         log = (self.folder / "target" / "cantrace.log").resolve()
