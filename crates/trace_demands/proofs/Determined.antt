@@ -182,11 +182,11 @@ ending_ends (field at tag v rest) = by_item (item_of tag v) (ending_ends rest)
     by_item (Item.Known event) l = l
 
 -- a history of events has their calls, and a line for each
-history_calls : (m n : Manager) (h g : History) (es : List Event) →
+history_calls : (es : List Event) (m n : Manager) (h g : History) →
     calls_of h ≡ calls_of g → calls_of (history_after m h es) ≡ calls_of (history_after n g es)
 unfolding history_after
-history_calls m n h g [] e = e
-history_calls m n h g (x ∷ es) e = history_calls _ _ _ _ es (ap (λ (cs : List Call). call_of x ∷ cs) e)
+history_calls [] m n h g e = e
+history_calls (x ∷ es) m n h g e = history_calls es _ _ _ _ (ap (λ (cs : List Call). call_of x ∷ cs) e)
 
 lines_length : (h : History) → length (history_lines h) ≡ length (calls_of h)
 unfolding history_lines
@@ -202,7 +202,7 @@ module _ (s t : List ℕ) (r : Recorded s) (q : Recorded t) (events : events_of 
   g = history_after (first_manager t) [] (events_of t)
 
   calls : calls_of h ≡ calls_of g
-  calls = history_calls (first_manager s) (first_manager t) [] [] (events_of s) refl
+  calls = history_calls (events_of s) (first_manager s) (first_manager t) [] [] refl
       ∙ ap (λ (es : List Event). calls_of (history_after (first_manager t) [] es)) events
 
   whole : (s : List ℕ) → (h : History) → Lines (first_line s ∷ (history_lines h ++ ending (row_at s (events_from s 0))))
