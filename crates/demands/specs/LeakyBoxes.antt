@@ -25,7 +25,7 @@ use Rattle.calls.specs.Histories.{Entry, entry_of, History, Address, to, to_all,
 use Rattle.demands.specs.BenchCases.{down, up}
 use Rattle.demands.specs.Histories.{computed_history, started_by, lived, crossed_sheet}
 use Rattle.demands.specs.WrongBoxes.{network_named, network}
-use Rattle.demands.specs.Across.{names, Asked, itself, ticks, asked, SameTo, Given, given, Elsewhere, BySheet}
+use Rattle.demands.specs.Across.{names, Asked, itself, ticks, listens, asked, SameTo, Given, given, Elsewhere, BySheet}
 
 -- ---- the networks of the sheet, and the calls
 abbrev seven : Network
@@ -106,9 +106,22 @@ unfolding computed_history asked
 not_same_to_the_other = refl
 
 -- network 7 alone on its sheet, where a tick needs 9 bytes
-pub same_on_its_own : SameTo seven (lived crossed_sheet (both_up ++ (listen 1 6 ∷ []))) (lived bench_sheet (down ++ up ++ (listen 1 3 ∷ [])))
+-- what reaches it in either, the latest first
+abbrev reached_to_listening : List Asked
+reached_to_listening =
+    listens true ∷ ticks ∷ itself (answer 3 1 1) ∷ ticks ∷ itself (answer 3 0 1) ∷ ticks ∷ itself (request 7 2) ∷ ticks ∷ itself (answer 3 2 1) ∷ ticks
+    ∷ itself (answer 3 0 1) ∷ ticks ∷ []
+
+reached_beside : asked seven (lived crossed_sheet (both_up ++ (listen 1 6 ∷ []))) ≡ reached_to_listening
 unfolding computed_history asked
-same_on_its_own = refl
+reached_beside = refl
+
+reached_alone : asked seven (lived bench_sheet (down ++ up ++ (listen 1 3 ∷ []))) ≡ reached_to_listening
+unfolding computed_history asked
+reached_alone = refl
+
+pub same_on_its_own : SameTo seven (lived crossed_sheet (both_up ++ (listen 1 6 ∷ []))) (lived bench_sheet (down ++ up ++ (listen 1 3 ∷ [])))
+same_on_its_own = reached_beside ∙ sym reached_alone
 
 -- of the six records with which both are told full three are its own: each goes by its kind, and controller 7 is not handle 7
 abbrev last_records : List Given → List Record
