@@ -1,14 +1,16 @@
 -- What code got back is what the definitions of the calls give: the histories that it notes are those of which the demands speak.
+use Rattle.std.specs.Prelude.{Ok, Err}
 use Rattle.lists.proofs.Basics.{ℕ, ◌≤◌, arith, ◌≡◌, refl, sym, ap, subst, ◌∙◌, List, [], ◌∷◌, ◌++◌, Bool, cond, true≢false, false≢true}
 use Rattle.lists.proofs.Basics.{eqb}
 use Rattle.lists.specs.Lists.{Bytes}
 use Rattle.records.specs.Records.{records_at}
 use Rattle.entries.specs.declared.Fault.{Fault}
+use Rattle.entries.specs.Entries.{fault_number}
 use Rattle.network_theorems.proofs.Parts.{refusal_refuses}
-use Rattle.slots.specs.declared.Answer.{Answer}
+use Rattle.slots.specs.declared.CallRefusal.{CallRefusal}
 use Rattle.slots.specs.declared.Manager.{Manager}
 use Rattle.slots.specs.declared.Outcome.{Outcome}
-use Rattle.slots.specs.Manager.{answer_number}
+use Rattle.slots.specs.Manager.{Answer, call_refusal_number, answer_number}
 use Rattle.slots.specs.Calls.{Call, read, outcome, by_rules, handed_out}
 use Rattle.calls.specs.Histories.{Entry, entry_of, History, Since, begun, goes, Reached, at_new, after as Led-on, counts_records}
 use Rattle.calls.proofs.Counts.{handed_back}
@@ -51,7 +53,7 @@ lived_since m₀ _ _ (makes m h task bytes before r after l g) =
 read_bytes : (m : Manager) (task : Task) (bytes before : List ℕ) → Bytes bytes → (b : List ℕ) → call_of task bytes before ≡ read b → Bytes b
 read_bytes m task bytes before w =
     by_task m bytes before (λ c left. (b : List ℕ) → c ≡ read b → Bytes b) (λ c e b q. absurd (true≢false (sym e ∙ ap counts_records q)))
-    (λ b q. let same : bytes ≡ b = cc in subst Bytes same w) (λ b q. absurd (let z : ◌≡◌ {A = ℕ} 0 1 = cc in omega arith)) task
+    (λ b q. let same : bytes ≡ b = cc in subst Bytes same w) (λ b q. absurd cc) task
 
 -- whatever it read were bytes
 pub lived_bytes : (m₀ m : Manager) (h : History) → Lived m₀ m h → ReadsOnlyBytes h
@@ -92,8 +94,8 @@ pub record Cut (m₀ m : Manager) (s : History) (e : Entry) (h : History) : Type
 
 -- the entry is the last one, or one of those before it
 pub cut : (m₀ m : Manager) (x : History) → Lived m₀ m x → (s : History) (e : Entry) (h : History) → x ≡ s ++ (e ∷ h) → Cut m₀ m s e h
-cut m₀ _ _ begins [] e h q = absurd (let z : ◌≡◌ {A = ℕ} 0 1 = cc in omega arith)
-cut m₀ _ _ begins (a ∷ s) e h q = absurd (let z : ◌≡◌ {A = ℕ} 0 1 = cc in omega arith)
+cut m₀ _ _ begins [] e h q = absurd cc
+cut m₀ _ _ begins (a ∷ s) e h q = absurd cc
 cut m₀ _ _ (makes m k task bytes before r after l g) [] e h q =
     let entry : noted (call_of task bytes before) r after ≡ e = cc in
     let call = ap (λ (x : Entry). x.call) entry in
@@ -120,26 +122,31 @@ cut m₀ _ _ (makes m k task bytes before r after l g) (a ∷ s) e h q =
     }
 
 -- ---- the number of an answer
+-- the refusals of a sheet begin at 30
+fault_number_lem : (f : Fault) → 0x30 ≤ fault_number f
+fault_number_lem Fault.Cut = omega arith
+fault_number_lem Fault.UnknownTag = omega arith
+fault_number_lem Fault.WrongLength = omega arith
+fault_number_lem Fault.OutOfOrder = omega arith
+fault_number_lem Fault.OutOfRange = omega arith
+fault_number_lem Fault.UsedBefore = omega arith
+fault_number_lem Fault.TooMany = omega arith
+fault_number_lem Fault.NoTransceiver = omega arith
+fault_number_lem Fault.Empty = omega arith
+
+-- 0 is the number of no refusal
+refusal_number_lem : (r : CallRefusal) → call_refusal_number r ≡ 0 → ⊥
+refusal_number_lem CallRefusal.NotReady e = omega (arith, e)
+refusal_number_lem CallRefusal.Running e = omega (arith, e)
+refusal_number_lem CallRefusal.TooShort e = omega (arith, e)
+refusal_number_lem CallRefusal.NoHandle e = omega (arith, e)
+refusal_number_lem CallRefusal.NoController e = omega (arith, e)
+refusal_number_lem CallRefusal.NoTransceiver e = omega (arith, e)
+refusal_number_lem CallRefusal.OutOfRange e = omega (arith, e)
+refusal_number_lem (CallRefusal.Network refusal) e = absurd (false≢true (sym (refusal_refuses refusal) ∙ ap (eqb 0) e))
+refusal_number_lem (CallRefusal.Sheet fault) e = absurd (omega (arith, fault_number_lem fault, e))
+
 -- 0 is the number of the one answer that is no refusal
-pub number_accepted : (a : Answer) → answer_number a ≡ 0 → a ≡ Answer.Accepted
-number_accepted Answer.Accepted e = refl
-number_accepted Answer.NotReady e = absurd (omega (arith, e))
-number_accepted Answer.Running e = absurd (omega (arith, e))
-number_accepted Answer.TooShort e = absurd (omega (arith, e))
-number_accepted Answer.NoHandle e = absurd (omega (arith, e))
-number_accepted Answer.NoController e = absurd (omega (arith, e))
-number_accepted Answer.NoTransceiver e = absurd (omega (arith, e))
-number_accepted Answer.OutOfRange e = absurd (omega (arith, e))
-number_accepted (Answer.Network refusal) e = absurd (false≢true (sym (refusal_refuses refusal) ∙ ap (eqb 0) e))
-number_accepted (Answer.Sheet fault) e = absurd (omega (arith, fault_number_lem fault, e))
-  where
-    fault_number_lem : (f : Fault) → 0x30 ≤ answer_number (Answer.Sheet f)
-    fault_number_lem Fault.Cut = omega arith
-    fault_number_lem Fault.UnknownTag = omega arith
-    fault_number_lem Fault.WrongLength = omega arith
-    fault_number_lem Fault.OutOfOrder = omega arith
-    fault_number_lem Fault.OutOfRange = omega arith
-    fault_number_lem Fault.UsedBefore = omega arith
-    fault_number_lem Fault.TooMany = omega arith
-    fault_number_lem Fault.NoTransceiver = omega arith
-    fault_number_lem Fault.Empty = omega arith
+pub number_accepted : (a : Answer) → answer_number a ≡ 0 → a ≡ Ok tt
+number_accepted (Ok done) e = refl
+number_accepted (Err refusal) e = absurd (refusal_number_lem refusal e)

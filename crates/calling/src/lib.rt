@@ -9,6 +9,7 @@ ghost use Rattle.calling.specs.Returned.{New, Returned};
 use manager::{Manager, Outcome};
 
 // A call with its numbers. What a reading reads and what a call is lent stand beside it.
+// It stays beside `trace::Event` and `network::Message`: each has the calls that its caller can make, and definitions speak of each.
 #[derive(Clone, Copy)]
 pub enum Task {
     Read,
@@ -33,7 +34,7 @@ pub fn begin() -> Manager
     manager::new()
 }
 
-// The call that a task is, with the bytes that a reading reads and the buffer that is lent.
+// The call that a task is, with the bytes that a reading reads and the buffer that is lent. Stays a match, as `trace::run_event`.
 pub fn make(manager: Manager, task: Task, bytes: &[u8], buffer: &mut [u8]) -> Outcome
     ensures { Returned manager task bytes.now buffer.old result buffer.new }
 {
@@ -66,6 +67,5 @@ pub fn make(manager: Manager, task: Task, bytes: &[u8], buffer: &mut [u8]) -> Ou
 pub fn number_of(outcome: Outcome) -> u8
     ensures { result ≡ answer_number outcome.answer }
 {
-    let answer = outcome.answer;
-    answer.number()
+    outcome.number()
 }

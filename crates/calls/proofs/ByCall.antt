@@ -1,22 +1,21 @@
 -- A call of the manager, taken apart once: by the stage, by the slot that its id names, and by what the network makes of it. Whatever holds of each
 -- of these cases holds of every call.
+use Rattle.std.specs.Prelude.{Some, None, Result, Ok, Err}
 use Rattle.lists.proofs.Basics.{ℕ, zero, suc, ◌*◌, ◌<◌, ◌≤◌, arith, ltb-false, ◌≡◌, refl, sym, ap, subst, ◌∙◌, List, [], ◌∷◌, Bool, true, false}
 use Rattle.lists.proofs.Basics.{cond, true≢false, ◌||◌, ◌&&◌, eqb, leb, ltb, length, get_or}
+use Rattle.std.specs.Prelude.{Ok, Err, Result, None, Some, Option}
 use Rattle.lists.specs.Lists.{any, first}
 use Rattle.lists.proofs.Any.{first_below, first_passes}
 use Rattle.records.specs.declared.Record.{Record}
 use Rattle.settings.specs.declared.Network.{Network}
 use Rattle.settings.specs.declared.Id.{Id}
-use Rattle.settings.specs.declared.Holder.{Holder}
 use Rattle.settings.specs.Settings.{blank_network, member, has, holder_of}
 use Rattle.entries.specs.declared.Fault.{Fault}
-use Rattle.sheet.specs.declared.Verdict.{Verdict}
 use Rattle.sheet.specs.Reading.{decode}
 use Rattle.sheet.specs.Encode.{encode}
 use Rattle.network.specs.declared.Hit.{Hit}
 use Rattle.network.specs.declared.Part.{Part}
 use Rattle.network.specs.declared.Refusal.{Refusal}
-use Rattle.network.specs.declared.Reply.{Reply}
 use Rattle.network.specs.declared.Report.{Report}
 use Rattle.network.specs.declared.State.{State}
 use Rattle.network.specs.declared.Trouble.{Trouble}
@@ -26,16 +25,14 @@ use Rattle.network.specs.Parts.{Sight, an_answer, a_request, a_report, nothing, 
 use Rattle.lists.proofs.Tests.{split}
 use Rattle.network_theorems.proofs.Parts.{by_request, by_report, by_answer, refused_stays}
 use Rattle.slots.specs.declared.Stage.{Stage}
-use Rattle.slots.specs.declared.Gate.{Gate}
-use Rattle.slots.specs.declared.Slot.{Slot}
-use Rattle.slots.specs.declared.Answer.{Answer}
+use Rattle.slots.specs.declared.CallRefusal.{CallRefusal}
 use Rattle.slots.specs.declared.Manager.{Manager}
 use Rattle.slots.specs.declared.Outcome.{Outcome}
-use Rattle.slots.specs.Manager.{answer_number, networks_of, settings_of, network_at, state_at, with_state, refused, accepted, gathered, tick_needs, listen_needs}
+use Rattle.slots.specs.Manager.{Answer, call_refusal_number, answer_number, networks_of, settings_of, network_at, state_at, with_state, refused, accepted, gathered, tick_needs, listen_needs}
 use Rattle.slots.specs.Calls.{Call, read, write, start, request, poll, bus_off, stall, answer, transceiver_mode, clear_done, check_done, tick, listen, by_stage}
 use Rattle.slots.specs.Calls.{after_reading, read_into, writing_of, started_from, unknown, slot_at, slot_of, by_slot, answer_of, slot_outcome}
 use Rattle.slots.specs.Calls.{named, slot_records, polled, gate_of, by_gate, gate_records, trouble_needs, all_ticked, online_anew, listened, outcome, by_rules}
-use Rattle.slots.proofs.Own.{slot_takes, slot_declines, slot_network}
+use Rattle.slots.proofs.Own.{declined_answer, slot_takes, slot_declines, slot_network}
 use Rattle.lent_calls.proofs.Ticks.{hit_fits, trouble_part, trouble_records}
 use Rattle.calls.specs.Histories.{is_accepted, to, to_nobody, address_of, seen_as, refusals_of, room_of}
 
@@ -55,17 +52,17 @@ none_has id (n ∷ l) i d e h = by_test (has id n) refl e i h (λ j f k. none_ha
 -- the slot of the network that has an id: it is in use, and its network has the id
 pub record Found (m : Manager) (id : Id) (i : ℕ) : Type 0 where
   pub started : m.stage ≡ Stage.Started
-  pub slot : slot_of m id ≡ Slot.At i
+  pub slot : slot_of m id ≡ Ok i
   pub used : i < length (networks_of m)
   pub has : has id (network_at m i) ≡ true
 
-module _ (m : Manager) (id : Id) (Q : Slot → Type 0)
-    (unready : (m.stage ≡ Stage.Started → ⊥) → Q (Slot.Refused Answer.NotReady))
-    (nobody : ((i : ℕ) → i < length (networks_of m) → has id (network_at m i) ≡ false) → Q (Slot.Refused (unknown id)))
-    (found : (i : ℕ) → Found m id i → Q (Slot.At i)) where
+module _ (m : Manager) (id : Id) (Q : Result ℕ CallRefusal → Type 0)
+    (unready : (m.stage ≡ Stage.Started → ⊥) → Q (Err CallRefusal.NotReady))
+    (nobody : ((i : ℕ) → i < length (networks_of m) → has id (network_at m i) ≡ false) → Q (Err (unknown id)))
+    (found : (i : ℕ) → Found m id i → Q (Ok i)) where
   by_holder : (b : Bool) → any (has id) (networks_of m) ≡ b → m.stage ≡ Stage.Started
-      → slot_of m id ≡ slot_at id (cond b (Holder.At (first (has id) (networks_of m))) Holder.Nobody)
-      → Q (slot_at id (cond b (Holder.At (first (has id) (networks_of m))) Holder.Nobody))
+      → slot_of m id ≡ slot_at id (cond b (Some (first (has id) (networks_of m))) None)
+      → Q (slot_at id (cond b (Some (first (has id) (networks_of m))) None))
   by_holder true e s f =
       let i = first (has id) (networks_of m) in
       let used : i < length (networks_of m) = first_below (has id) (networks_of m) e in
@@ -79,10 +76,10 @@ module _ (m : Manager) (id : Id) (Q : Slot → Type 0)
       nobody (λ i h. subst (λ (n : Network). has id n ≡ false) (slot_network m i h) (none_has id (networks_of m) i blank_network e h))
 
   by_stage_lem : (g : Stage) →
-      m.stage ≡ g → Q (by_stage g (Slot.Refused Answer.NotReady) (Slot.Refused Answer.NotReady) (slot_at id (holder_of id (networks_of m))))
+      m.stage ≡ g → Q (by_stage g (Err CallRefusal.NotReady) (Err CallRefusal.NotReady) (slot_at id (holder_of id (networks_of m))))
   unfolding slot_of holder_of
-  by_stage_lem Stage.Empty e = unready (λ f. let z : ◌≡◌ {A = ℕ} 0 1 = cc in omega arith)
-  by_stage_lem Stage.Loaded e = unready (λ f. let z : ◌≡◌ {A = ℕ} 0 1 = cc in omega arith)
+  by_stage_lem Stage.Empty e = unready (λ f. cc)
+  by_stage_lem Stage.Loaded e = unready (λ f. cc)
   by_stage_lem Stage.Started e = by_holder (any (has id) (networks_of m)) refl e (rw e refl)
 
   -- before the start no slot is found; after it nobody has the id, or the first network that has it is found
@@ -97,9 +94,9 @@ pub record CanRefuse (c : Call) (a : Answer) : Type 0 where
   pub among : member (answer_number a) (refusals_of c) ≡ true
 
 -- R1: the number of a network's reply is that of the manager's answer
-pub answer_number_lem : (reply : Reply) → answer_number (answer_of reply) ≡ reply_number reply
-answer_number_lem Reply.Taken = refl
-answer_number_lem (Reply.Refused refusal) = refl
+pub answer_number_lem : (reply : Result Unit Refusal) → answer_number (answer_of reply) ≡ reply_number reply
+answer_number_lem (Ok done) = refl
+answer_number_lem (Err refusal) = refl
 
 -- a network's part is a refusal, and this is the manager's answer for it
 pub record Declines (part : Part) (a : Answer) : Type 0 where
@@ -109,12 +106,12 @@ pub record Declines (part : Part) (a : Answer) : Type 0 where
 -- P call outcome records, for each way in which a call can end
 pub record ByCall (m : Manager) (P : Call → Outcome → List Record → Type 0) : Type 0 where
   -- it is refused before any network is asked: on a started manager none sees it
-  pub refuses : (c : Call) (a : Answer) → CanRefuse c a →
-      (m.stage ≡ Stage.Started → (i : ℕ) → i < length (networks_of m) → seen_as (network_at m i) (address_of (answer_number a) c) ≡ nothing)
+  pub refuses : (c : Call) (a : CallRefusal) → CanRefuse c (Err a) →
+      (m.stage ≡ Stage.Started → (i : ℕ) → i < length (networks_of m) → seen_as (network_at m i) (address_of (call_refusal_number a) c) ≡ nothing)
       → P c (refused m a) []
   -- the network that it names refuses it
-  pub declines : (c : Call) (id : Id) (sight : Sight) (i : ℕ) (a : Answer) → address_of (answer_number a) c ≡ to id sight → Found m id i
-      → Declines (part_of (network_at m i) (state_at m i) sight) a → CanRefuse c a → P c (refused m a) []
+  pub declines : (c : Call) (id : Id) (sight : Sight) (i : ℕ) (a : CallRefusal) → address_of (call_refusal_number a) c ≡ to id sight → Found m id i
+      → Declines (part_of (network_at m i) (state_at m i) sight) (Err a) → CanRefuse c (Err a) → P c (refused m a) []
   -- the network that it names takes it
   pub takes : (c : Call) (id : Id) (sight : Sight) (i : ℕ) → address_of 0 c ≡ to id sight → Found m id i
       → is_taken (part_of (network_at m i) (state_at m i) sight).reply ≡ true
@@ -126,10 +123,10 @@ pub record ByCall (m : Manager) (P : Call → Outcome → List Record → Type 0
   pub listens : (value room : ℕ) → m.stage ≡ Stage.Started → ltb room (listen_needs m) ≡ false → ltb 1 value ≡ false
       → P (listen value room) (listened m (eqb 1 value)) (online_anew m (eqb 1 value))
   pub polls : (handle i : ℕ) → Found m (Id.OfNetwork handle) i → P (poll handle) (polled m (state_at m i).told) []
-  pub reads : (bytes : List ℕ) → (m.stage ≡ Stage.Started → ⊥) → (decode bytes).answer ≡ Verdict.Accepted
-      → P (read bytes) (after_reading m (decode bytes) Verdict.Accepted) []
+  pub reads : (bytes : List ℕ) → (m.stage ≡ Stage.Started → ⊥) → (decode bytes).answer ≡ Ok tt
+      → P (read bytes) (after_reading m (decode bytes) (Ok tt)) []
   pub misreads : (bytes : List ℕ) (fault : Fault) →
-      (m.stage ≡ Stage.Started → ⊥) → P (read bytes) (after_reading m (decode bytes) (Verdict.Refused fault)) []
+      (m.stage ≡ Stage.Started → ⊥) → P (read bytes) (after_reading m (decode bytes) (Err fault)) []
   pub writes : (room : ℕ) → (m.stage ≡ Stage.Empty → ⊥) → P (write room) (accepted m (length (encode (settings_of m)))) []
   pub starts : m.stage ≡ Stage.Loaded → P start (accepted (started_from m) 0) []
 
@@ -138,8 +135,8 @@ module _ (m : Manager) (P : Call → Outcome → List Record → Type 0) (by : B
   -- its refusals: 01, the one for an unknown id, and those of the network
   record Refusals (c : Call) (id : Id) (sight : Sight) : Type 0 where
     names : (number : ℕ) → address_of number c ≡ to id sight
-    unready : CanRefuse c Answer.NotReady
-    nobody : CanRefuse c (unknown id)
+    unready : CanRefuse c (Err CallRefusal.NotReady)
+    nobody : CanRefuse c (Err (unknown id))
     declined : (i : ℕ) → is_taken (part_of (network_at m i) (state_at m i) sight).reply ≡ false
         → CanRefuse c (answer_of (part_of (network_at m i) (state_at m i) sight).reply)
     fits : (i : ℕ) → 3 * length (records_of (network_at m i) (state_at m i) sight) ≤ room_of c
@@ -154,16 +151,16 @@ module _ (m : Manager) (P : Call → Outcome → List Record → Type 0) (by : B
           subst (λ (o : Outcome). P c o (records_of (network_at m i) (state_at m i) sight)) (sym (slot_takes m i sight e))
           (by.takes c id sight i (r.names 0) f e (r.fits i))
       by_reply_lem false e =
-          subst (λ (o : Outcome). P c o (records_of (network_at m i) (state_at m i) sight)) (sym (slot_declines m i sight e))
-          (subst (P c (refused m (answer_of (part_of (network_at m i) (state_at m i) sight).reply)))
-          (sym (refused_stays (network_at m i) (state_at m i) sight e).1) (by.declines c id sight i _ (r.names _) f
-          (record { refused = e; answer = refl }) (r.declined i e)))
+          let d = declined_answer (part_of (network_at m i) (state_at m i) sight).reply e in
+          subst (λ (o : Outcome). P c o (records_of (network_at m i) (state_at m i) sight)) (sym (slot_declines m i sight d.0 d.1))
+          (subst (P c (refused m d.0)) (sym (refused_stays (network_at m i) (state_at m i) sight e).1)
+          (by.declines c id sight i d.0 (r.names _) f (record { refused = e; answer = sym d.1 }) (subst (CanRefuse c) d.1 (r.declined i e))))
 
   by_named_lem : (c : Call) (id : Id) (sight : Sight) → Refusals c id sight → P c (named m id sight) (slot_records m (slot_of m id) sight)
   unfolding named
   by_named_lem c id sight r =
       by_slot_lem m id (λ slot. P c (by_slot m slot (λ i. slot_outcome m i sight)) (slot_records m slot sight))
-      (λ f. by.refuses c Answer.NotReady r.unready (λ s. absurd (f s))) (λ f. by.refuses c (unknown id)
+      (λ f. by.refuses c CallRefusal.NotReady r.unready (λ s. absurd (f s))) (λ f. by.refuses c (unknown id)
       r.nobody (λ s i h. ap (seen_as (network_at m i)) (r.names _) ∙ ap (λ (b : Bool). cond b sight nothing) (f i h))) (at_slot c id sight r)
 
   -- it hands out nothing, whatever the slot
@@ -171,71 +168,71 @@ module _ (m : Manager) (P : Call → Outcome → List Record → Type 0) (by : B
       Refusals c id sight → ((i : ℕ) → records_of (network_at m i) (state_at m i) sight ≡ []) → P c (named m id sight) []
   quiet c id sight r e = subst (P c (named m id sight)) (none (slot_of m id)) (by_named_lem c id sight r)
     where
-      none : (slot : Slot) → slot_records m slot sight ≡ []
-      none (Slot.Refused a) = refl
-      none (Slot.At i) = e i
+      none : (slot : Result ℕ CallRefusal) → slot_records m slot sight ≡ []
+      none (Err a) = refl
+      none (Ok i) = e i
 
   -- ---- a call that is lent a buffer for records
   by_gate_lem : (c : Call) (room needs : ℕ) (o : Outcome) (rs : List Record) →
-      CanRefuse c Answer.NotReady → CanRefuse c Answer.TooShort → (ltb room needs ≡ true → (n : Network) → seen_as n (address_of 0x20 c) ≡ nothing) →
+      CanRefuse c (Err CallRefusal.NotReady) → CanRefuse c (Err CallRefusal.TooShort) → (ltb room needs ≡ true → (n : Network) → seen_as n (address_of 0x20 c) ≡ nothing) →
       (m.stage ≡ Stage.Started → ltb room needs ≡ false → P c o rs) → P c (by_gate m (gate_of m room needs) o) (gate_records (gate_of m room needs) rs)
   unfolding gate_of
   by_gate_lem c room needs o rs unready short unseen p = at_stage m.stage refl
     where
-      Through : Gate → Type 0
+      Through : Answer → Type 0
       Through gate = P c (by_gate m gate o) (gate_records gate rs)
 
-      not_started : (m.stage ≡ Stage.Started → ⊥) → P c (refused m Answer.NotReady) []
-      not_started f = by.refuses c Answer.NotReady unready (λ s. absurd (f s))
+      not_started : (m.stage ≡ Stage.Started → ⊥) → P c (refused m CallRefusal.NotReady) []
+      not_started f = by.refuses c CallRefusal.NotReady unready (λ s. absurd (f s))
 
       at_stage : (g : Stage) → m.stage ≡ g → Through
-          (by_stage g (Gate.Refused Answer.NotReady) (Gate.Refused Answer.NotReady) (cond (ltb room needs) (Gate.Refused Answer.TooShort) Gate.Open))
-      at_stage Stage.Empty e = not_started (λ f. let z : ◌≡◌ {A = ℕ} 0 1 = cc in omega arith)
-      at_stage Stage.Loaded e = not_started (λ f. let z : ◌≡◌ {A = ℕ} 0 1 = cc in omega arith)
+          (by_stage g (Err CallRefusal.NotReady) (Err CallRefusal.NotReady) (cond (ltb room needs) (Err CallRefusal.TooShort) (Ok tt)))
+      at_stage Stage.Empty e = not_started (λ f. cc)
+      at_stage Stage.Loaded e = not_started (λ f. cc)
       at_stage Stage.Started e = split Through (ltb room needs)
-          (λ t. by.refuses c Answer.TooShort short (λ _ i h. unseen t (network_at m i))) (λ t. p e t)
+          (λ t. by.refuses c CallRefusal.TooShort short (λ _ i h. unseen t (network_at m i))) (λ t. p e t)
 
   -- ---- the sheet and the start
   by_reading_lem : (bytes : List ℕ) → (m.stage ≡ Stage.Started → ⊥) → P (read bytes) (read_into m bytes) []
   unfolding read_into
   by_reading_lem bytes f = by_answer_of (decode bytes).answer refl
     where
-      by_answer_of : (a : Verdict) → (decode bytes).answer ≡ a → P (read bytes) (after_reading m (decode bytes) a) []
-      by_answer_of Verdict.Accepted e = by.reads bytes f e
-      by_answer_of (Verdict.Refused fault) e = by.misreads bytes fault f
+      by_answer_of : (a : Result Unit Fault) → (decode bytes).answer ≡ a → P (read bytes) (after_reading m (decode bytes) a) []
+      by_answer_of (Ok done) e = by.reads bytes f e
+      by_answer_of (Err fault) e = by.misreads bytes fault f
 
   by_read : (bytes : List ℕ) (g : Stage) →
-      m.stage ≡ g → P (read bytes) (by_stage g (read_into m bytes) (read_into m bytes) (refused m Answer.Running)) []
+      m.stage ≡ g → P (read bytes) (by_stage g (read_into m bytes) (read_into m bytes) (refused m CallRefusal.Running)) []
   unfolding any
-  by_read bytes Stage.Empty e = by_reading_lem bytes (λ f. let z : ◌≡◌ {A = ℕ} 0 1 = cc in omega arith)
-  by_read bytes Stage.Loaded e = by_reading_lem bytes (λ f. let z : ◌≡◌ {A = ℕ} 0 1 = cc in omega arith)
-  by_read bytes Stage.Started e = by.refuses (read bytes) Answer.Running (record { refused = refl; among = refl }) (λ s i h. refl)
+  by_read bytes Stage.Empty e = by_reading_lem bytes (λ f. cc)
+  by_read bytes Stage.Loaded e = by_reading_lem bytes (λ f. cc)
+  by_read bytes Stage.Started e = by.refuses (read bytes) CallRefusal.Running (record { refused = refl; among = refl }) (λ s i h. refl)
 
   by_writing : (room : ℕ) → (m.stage ≡ Stage.Empty → ⊥) → P (write room) (writing_of m room) []
   unfolding writing_of any
   by_writing room f = split (λ (o : Outcome). P (write room) o []) (leb (length (encode (settings_of m))) room) (λ e. by.writes room f)
-      (λ e. by.refuses (write room) Answer.TooShort (record { refused = refl; among = refl }) (λ s i h. refl))
+      (λ e. by.refuses (write room) CallRefusal.TooShort (record { refused = refl; among = refl }) (λ s i h. refl))
 
-  by_write : (room : ℕ) (g : Stage) → m.stage ≡ g → P (write room) (by_stage g (refused m Answer.NotReady) (writing_of m room) (writing_of m room)) []
+  by_write : (room : ℕ) (g : Stage) → m.stage ≡ g → P (write room) (by_stage g (refused m CallRefusal.NotReady) (writing_of m room) (writing_of m room)) []
   unfolding any
-  by_write room Stage.Empty e = by.refuses (write room) Answer.NotReady (record { refused = refl; among = refl }) (λ s i h. refl)
-  by_write room Stage.Loaded e = by_writing room (λ f. let z : ◌≡◌ {A = ℕ} 0 1 = cc in omega arith)
-  by_write room Stage.Started e = by_writing room (λ f. let z : ◌≡◌ {A = ℕ} 0 1 = cc in omega arith)
+  by_write room Stage.Empty e = by.refuses (write room) CallRefusal.NotReady (record { refused = refl; among = refl }) (λ s i h. refl)
+  by_write room Stage.Loaded e = by_writing room (λ f. cc)
+  by_write room Stage.Started e = by_writing room (λ f. cc)
 
-  by_start : (g : Stage) → m.stage ≡ g → P start (by_stage g (refused m Answer.NotReady) (accepted (started_from m) 0) (refused m Answer.Running)) []
+  by_start : (g : Stage) → m.stage ≡ g → P start (by_stage g (refused m CallRefusal.NotReady) (accepted (started_from m) 0) (refused m CallRefusal.Running)) []
   unfolding any
-  by_start Stage.Empty e = by.refuses start Answer.NotReady (record { refused = refl; among = refl }) (λ s i h. refl)
+  by_start Stage.Empty e = by.refuses start CallRefusal.NotReady (record { refused = refl; among = refl }) (λ s i h. refl)
   by_start Stage.Loaded e = by.starts e
-  by_start Stage.Started e = by.refuses start Answer.Running (record { refused = refl; among = refl }) (λ s i h. refl)
+  by_start Stage.Started e = by.refuses start CallRefusal.Running (record { refused = refl; among = refl }) (λ s i h. refl)
 
   -- ---- the replies of a network
   -- 21, for what is out of range
   abbrev outside : Answer
-  outside = Answer.Network Refusal.OutOfRange
+  outside = Err (CallRefusal.Network Refusal.OutOfRange)
 
   -- 22, for what the step does not take
   abbrev untaken : Answer
-  untaken = Answer.Network Refusal.NotTaken
+  untaken = Err (CallRefusal.Network Refusal.NotTaken)
 
   abbrev Declined : Call → Part → Type 0
   Declined c part = is_taken part.reply ≡ false → CanRefuse c (answer_of part.reply)
@@ -257,21 +254,21 @@ module _ (m : Manager) (P : Call → Outcome → List Record → Type 0) (by : B
   unfolding part_of report_part
   report_declined c report out not i = by_report (state_at m i) (Declined c) report _ (λ _ e. absurd (true≢false e)) (λ e _. out e) (λ _ _. not)
 
-  hit_declined : (c : Call) (s : State) → CanRefuse c untaken → (hit : Hit) → Declined c (hit_part s hit)
+  hit_declined : (c : Call) (s : State) → CanRefuse c untaken → (hit : Option Hit) → Declined c (hit_part s hit)
   unfolding hit_part
-  hit_declined c s not Hit.Recover e = absurd (true≢false e)
-  hit_declined c s not Hit.Restart e = absurd (true≢false e)
-  hit_declined c s not Hit.Reset e = absurd (true≢false e)
-  hit_declined c s not Hit.NotTaken e = not
+  hit_declined c s not (Some Hit.Recover) e = absurd (true≢false e)
+  hit_declined c s not (Some Hit.Restart) e = absurd (true≢false e)
+  hit_declined c s not (Some Hit.Reset) e = absurd (true≢false e)
+  hit_declined c s not None e = not
 
   -- ---- a call by which trouble is reported: it names an id, and is lent a buffer
   record Reports (c : Call) (room : ℕ) (id : Id) (trouble : Trouble) : Type 0 where
     names : (number : ℕ) →
         address_of number c ≡ cond (ltb room (trouble_needs trouble) && eqb 0x20 number) to_nobody (to id (sight_of trouble))
     lent : room_of c ≡ room
-    unready : CanRefuse c Answer.NotReady
-    short : CanRefuse c Answer.TooShort
-    nobody : CanRefuse c (unknown id)
+    unready : CanRefuse c (Err CallRefusal.NotReady)
+    short : CanRefuse c (Err CallRefusal.TooShort)
+    nobody : CanRefuse c (Err (unknown id))
     not : CanRefuse c untaken
 
   by_trouble : (c : Call) (room : ℕ) (id : Id) (trouble : Trouble) → Reports c room id trouble
@@ -310,8 +307,8 @@ module _ (m : Manager) (P : Call → Outcome → List Record → Type 0) (by : B
       })
       (λ i. refl)
   by_call (poll handle) = by_slot_lem m (Id.OfNetwork handle) (λ slot. P (poll handle) (by_slot m slot (λ i. polled m (state_at m i).told)) [])
-      (λ f. by.refuses (poll handle) Answer.NotReady (record { refused = refl; among = refl }) (λ s i h. refl))
-      (λ f. by.refuses (poll handle) Answer.NoHandle (record { refused = refl; among = refl }) (λ s i h. refl))
+      (λ f. by.refuses (poll handle) CallRefusal.NotReady (record { refused = refl; among = refl }) (λ s i h. refl))
+      (λ f. by.refuses (poll handle) CallRefusal.NoHandle (record { refused = refl; among = refl }) (λ s i h. refl))
       (λ i f. by.polls handle i f)
   by_call (bus_off c room) = by_trouble (bus_off c room) room (Id.OfController c) Trouble.BusOff (record {
     names = λ number. refl;
@@ -374,6 +371,6 @@ module _ (m : Manager) (P : Call → Outcome → List Record → Type 0) (by : B
       (λ e n. refl) (λ s e. by_value_lem s e (ltb 1 value) refl)
     where
       by_value_lem : m.stage ≡ Stage.Started → ltb room (listen_needs m) ≡ false → (above : Bool) → ltb 1 value ≡ above
-          → P (listen value room) (cond above (refused m Answer.OutOfRange) (listened m (eqb 1 value))) (cond above [] (online_anew m (eqb 1 value)))
-      by_value_lem s e true a = by.refuses (listen value room) Answer.OutOfRange (record { refused = refl; among = refl }) (λ _ i h. refl)
+          → P (listen value room) (cond above (refused m CallRefusal.OutOfRange) (listened m (eqb 1 value))) (cond above [] (online_anew m (eqb 1 value)))
+      by_value_lem s e true a = by.refuses (listen value room) CallRefusal.OutOfRange (record { refused = refl; among = refl }) (λ _ i h. refl)
       by_value_lem s e false a = by.listens value room s e a

@@ -67,15 +67,15 @@ same_id : {x y : Id} {sight sight' : Sight} → to x sight ≡ to y sight' → x
 same_id e = cc
 
 unless : (b : Bool) (x y : Id) (sight sight' : Sight) → cond b to_nobody (to x sight) ≡ to y sight' → x ≡ y
-unless true x y sight sight' e = absurd (let z : ◌≡◌ {A = ℕ} 0 1 = cc in omega arith)
+unless true x y sight sight' e = absurd cc
 unless false x y sight sight' e = same_id e
 
 no_address : {A : Type 0} {id : Id} {sight : Sight} → to_nobody ≡ to id sight → A
-no_address e = absurd (let z : ◌≡◌ {A = ℕ} 0 1 = cc in omega arith)
+no_address e = absurd cc
 
 -- a tick that is accepted concerns all, and one that is refused nobody
 tick_address : {A : Type 0} {id : Id} {sight : Sight} (b : Bool) → cond b to_all to_nobody ≡ to id sight → A
-tick_address true e = absurd (let z : ◌≡◌ {A = ℕ} 0 1 = cc in omega arith)
+tick_address true e = absurd cc
 tick_address false e = no_address e
 
 -- it names that id, and leaves it as it was whether the manager listens

@@ -13,7 +13,7 @@ use Rattle.lent_calls.proofs.Gathered.{gathered_summed}
 use Rattle.lent_calls.proofs.Ticks.{tick_share}
 use Rattle.listen_calls.proofs.Online.{anew_fits}
 use Rattle.calls.specs.Histories.{room_of, counts_records}
-use Rattle.calls.proofs.ByCall.{ByCall, by_call}
+use Rattle.calls.proofs.ByCall.{by_call}
 
 -- the records fit into the bytes that were lent, and the count is their number
 pub record Counted (c : Call) (o : Outcome) (rs : List Record) : Type 0 where

@@ -9,9 +9,8 @@ use Rattle.settings.specs.Settings.{has}
 use Rattle.network.specs.declared.Report.{Report}
 use Rattle.network.specs.Parts.{Sight, a_tick, a_bus_off, a_stall, an_answer, a_request, a_report, nothing}
 use Rattle.slots.specs.declared.Stage.{Stage}
-use Rattle.slots.specs.declared.Answer.{Answer}
 use Rattle.slots.specs.declared.Manager.{Manager}
-use Rattle.slots.specs.Manager.{answer_number}
+use Rattle.slots.specs.Manager.{Answer, answer_number}
 use Rattle.slots.specs.Calls.{Call, read, write, start, request, poll, bus_off, stall, answer, transceiver_mode, clear_done, check_done, tick}
 use Rattle.slots.specs.Calls.{listen, new_manager, bus_off_needs, stall_needs, outcome, handed_out}
 

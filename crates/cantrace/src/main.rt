@@ -8,12 +8,8 @@ use trace::Trace;
 // One byte more than the longest input, so that a longer one is seen.
 const ROOM: usize = Trace::MOST_BYTES + 1;
 
-fn room() -> [u8; ROOM] {
-    [0; ROOM]
-}
-
 fn main(rt: HostRuntime) -> io::Result<()> {
-    let mut input = room();
+    let mut input = [0; ROOM];
     let count = streams::read_full(&mut rt.stdin(), &mut input)?;
     trace::run(&mut io::writer(&rt), &input[..count])?;
     Ok(())

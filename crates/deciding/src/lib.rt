@@ -1,7 +1,7 @@
 // The tick's one decision. What a tick can decide, and the definition of the decision, stand with the steps.
 #![tactic(auto)]
 
-ghost use Rattle.std.specs.Prelude.{◌≡◌, cond};
+ghost use Rattle.std.specs.Prelude.{◌≡◌};
 ghost use Rattle.steps.specs.Decision.{by_mode, by_partial, by_transceiver, when_done, risen, goes_down, rule_of, decision};
 
 use records::Mode;
@@ -25,8 +25,7 @@ fn by_partial(outfit: Outfit, without: Move, with: Move) -> Move
     ensures { result ≡ by_partial outfit without with }
 {
     match outfit {
-        Outfit::Bare => without,
-        Outfit::Fitted => without,
+        Outfit::Bare | Outfit::Fitted => without,
         Outfit::Partial => with,
     }
 }
@@ -37,15 +36,8 @@ fn by_transceiver(outfit: Outfit, without: Move, with: Move) -> Move
 {
     match outfit {
         Outfit::Bare => without,
-        Outfit::Fitted => with,
-        Outfit::Partial => with,
+        Outfit::Fitted | Outfit::Partial => with,
     }
-}
-
-fn either(test: bool, yes: Move, no: Move) -> Move
-    ensures { result ≡ cond test yes no }
-{
-    if test { yes } else { no }
 }
 
 // N12: an asking step that is not done asks again.
@@ -59,10 +51,7 @@ fn when_done(done: bool, to: Move) -> Move
 fn rise(ticks: u16) -> u16
     ensures { result ≡ risen ticks }
 {
-    if ticks < Step::MOST_TICKS {
-        return ticks + 1;
-    }
-    ticks
+    ticks.saturating_add(1)
 }
 
 // ---- the rules
@@ -71,11 +60,7 @@ fn rise(ticks: u16) -> u16
 fn goes_down(step: Step, wanted: Mode) -> bool
     ensures { result ≡ goes_down step wanted }
 {
-    match wanted {
-        Mode::No => step.is_on(),
-        Mode::Silent => false,
-        Mode::Full => false,
-    }
+    wanted == Mode::No && step.is_on()
 }
 
 // T4 to T22, T29, T30: a rule for each step, where the network does not go down.
@@ -102,18 +87,21 @@ fn rule_of(
         Step::ControllersStopped => when_done(done, Move::Enter(Step::ControllersStarted)),
         Step::ControllersStarted => when_done(done, Move::EnterFull),
         Step::Checking(ticks) => {
-            let checked = either(
-                reached,
-                Move::Pass,
-                Move::Count(Step::Checking(rise(ticks))),
-            );
+            let checked = if reached {
+                Move::Pass
+            } else {
+                Move::Count(Step::Checking(rise(ticks)))
+            };
             by_mode(wanted, checked, Move::EnterSilent, checked)
         }
         Step::Full => by_mode(wanted, Move::Stay, Move::EnterSilent, Move::Stay),
         Step::Restarting => when_done(done, Move::Wait),
         Step::Waiting(ticks) => {
-            let back = by_mode(wanted, Move::EnterFull, Move::EnterSilent, Move::EnterFull);
-            either(reached, back, Move::Count(Step::Waiting(rise(ticks))))
+            if reached {
+                by_mode(wanted, Move::EnterFull, Move::EnterSilent, Move::EnterFull)
+            } else {
+                Move::Count(Step::Waiting(rise(ticks)))
+            }
         }
         Step::Silent => by_mode(wanted, Move::Stay, Move::Stay, Move::EnterFull),
         Step::ClearWake => {
@@ -142,12 +130,12 @@ fn rule_of(
                 Move::EnterNoCommunication,
                 Move::Enter(Step::TransceiverStandby),
             );
-            let awake = when_done(done, Move::Enter(Step::CheckWake));
-            by_partial(
-                outfit,
-                when_done(done, slept),
-                either(refused, Move::Enter(Step::CheckWakeAgain), awake),
-            )
+            let woken = if refused {
+                Move::Enter(Step::CheckWakeAgain)
+            } else {
+                when_done(done, Move::Enter(Step::CheckWake))
+            };
+            by_partial(outfit, when_done(done, slept), woken)
         }
         Step::CheckWake => {
             let next = by_partial(outfit, Move::Stay, Move::EnterNoCommunication);
@@ -165,7 +153,9 @@ fn rule_of(
     }
 }
 
-// T3: what a tick decides, where going down is looked at first.
+// T3: what a tick decides, where going down is looked at first. Its six parameters stay: they go through two functions, and the definition `decision`
+// takes the same six.
+#[tactic(auto, unfolding(steps::specs::Decision::decision))]
 pub fn decide(
     step: Step,
     wanted: Mode,

@@ -1,7 +1,9 @@
 -- Nothing leaks across: of what a history does to one network nothing is left but what reached it.
-use Rattle.lists.proofs.Basics.{ℕ, ◌<◌, arith, ◌≡◌, refl, sym, ap, subst, ◌∙◌, List, [], ◌∷◌, ◌++◌, map, Bool, true, false, cond, or-false}
+use Rattle.lists.proofs.Basics.{ℕ, ◌<◌, ◌≡◌, refl, sym, ap, subst, ◌∙◌, List, [], ◌∷◌, ◌++◌, map, Bool, true, false, cond, or-false}
 use Rattle.lists.proofs.Basics.{false≢true, eqb, ltb, leb, length, get_or, take, ◌*◌}
 use lib.Seq.{get_or-set_same}
+use Rattle.std.specs.Prelude.{Ok, Err}
+use Rattle.slots.specs.declared.CallRefusal.{CallRefusal}
 use Rattle.lists.specs.Lists.{any, first}
 use Rattle.records.specs.Records.{turned}
 use Rattle.settings.specs.declared.Network.{Network}
@@ -13,20 +15,16 @@ use Rattle.handing.specs.Handing.{online_in, own_record}
 use Rattle.handing.proofs.Laws.{online_own}
 use Rattle.network.specs.declared.State.{State}
 use Rattle.network.specs.State.{started}
-use Rattle.network.specs.Replies.{is_taken}
 use Rattle.network.specs.Parts.{Sight, a_tick, nothing, sight_of, part_of}
 use Rattle.slots.specs.declared.Stage.{Stage}
-use Rattle.slots.specs.declared.Gate.{Gate}
-use Rattle.slots.specs.declared.Slot.{Slot}
-use Rattle.slots.specs.declared.Answer.{Answer}
 use Rattle.slots.specs.declared.Manager.{Manager}
 use Rattle.slots.specs.declared.Outcome.{Outcome}
-use Rattle.slots.specs.Manager.{answer_number, networks_of, settings_of, blank_state, network_at, state_at, refused, accepted, summed}
+use Rattle.slots.specs.Manager.{call_refusal_number, Answer, answer_number, networks_of, settings_of, blank_state, network_at, state_at, refused, accepted, summed}
 use Rattle.slots.specs.Manager.{controller_count, tick_needs, listen_needs}
 use Rattle.slots.specs.Calls.{Call, write, poll, by_stage}
-use Rattle.slots.specs.Calls.{writing_of, slot_of, by_slot, answer_of, slot_outcome, named, slot_records, polled, gate_of, by_gate}
+use Rattle.slots.specs.Calls.{writing_of, slot_of, by_slot, answer_of, settled, slot_outcome, named, slot_records, polled, gate_of, by_gate}
 use Rattle.slots.specs.Calls.{trouble_needs, changes, all_ticked, all_online, online_anew, listened, outcome, by_rules, handed_out}
-use Rattle.slots.proofs.Own.{slot_takes, slot_declines, named_at, slot_state}
+use Rattle.slots.proofs.Own.{named_at, slot_state}
 use Rattle.calls.specs.Histories.{Entry, entry_of, History, Since, begun, goes, ids_of, Address, to, to_all, to_nobody, address_of, seen_as, Switch, turns}
 use Rattle.calls.specs.Histories.{leaves, switch_of, switched}
 use Rattle.calls.proofs.ByCall.{by_call}
@@ -45,13 +43,13 @@ use Rattle.demands.proofs.Listening.{no_turn, turn_alone, by_turn, keep_turned, 
 
 -- a list of one is not empty
 some : {A B : Type 0} {x : A} {l : List A} → x ∷ l ≡ [] → B
-some e = absurd (let z : ◌≡◌ {A = ℕ} 0 1 = cc in omega arith)
+some e = absurd cc
 
 -- ---- a box that has this network alone
 abbrev alone : Network → State → Bool → Manager
-alone n s listening = record { stage = Stage.Started; listening = listening; count = 1; networks = n ∷ []; states = s ∷ [] }
+alone n s listening = record { stage = Stage.Started; listening = listening; settings = record { networks = n ∷ []; count = 1 }; states = s ∷ [] }
 
-alone_slot : (n : Network) (s : State) (listening : Bool) (id : Id) → has id n ≡ true → slot_of (alone n s listening) id ≡ Slot.At 0
+alone_slot : (n : Network) (s : State) (listening : Bool) (id : Id) → has id n ≡ true → slot_of (alone n s listening) id ≡ Ok 0
 unfolding slot_of holder_of any first
 alone_slot n s listening id e = rw e refl
 
@@ -113,22 +111,21 @@ module _
     mode : o.mode ≡ o'.mode
     state : state_at o.manager i ≡ state_at o'.manager 0
 
-  refused_same : (answer : Answer) → Same (refused m answer) (refused a answer)
-  refused_same answer = record { answer = refl; mode = refl; state = refl }
+  -- what a refusal or its outcome gives
+  gated : (answer : Answer) (o o' : Outcome) → Same o o' → Same (by_gate m answer o) (by_gate a answer o')
+  gated (Err refusal) o o' e = record { answer = refl; mode = refl; state = refl }
+  gated (Ok done) o o' e = e
 
   slot_same : (sight : Sight) → Same (slot_outcome m i sight) (slot_outcome a 0 sight)
-  slot_same sight = by_reply_lem (is_taken (part_of n s sight).reply) refl
-    where
-      by_reply_lem : (taken : Bool) → is_taken (part_of n s sight).reply ≡ taken → Same (slot_outcome m i sight) (slot_outcome a 0 sight)
-      by_reply_lem true e = rw (slot_takes m i sight e, slot_takes a 0 sight e) (record {
-        answer = refl;
-        mode = refl;
-        state = get_or-set_same m.states i (part_of n s sight).state blank_state (slot_state m sound.networks sound.states i used);
-      })
-      by_reply_lem false e = rw (slot_declines m i sight e, slot_declines a 0 sight e) (refused_same (answer_of (part_of n s sight).reply))
+  unfolding slot_outcome settled
+  slot_same sight = gated (answer_of (part_of n s sight).reply) _ _ (record {
+    answer = refl;
+    mode = refl;
+    state = get_or-set_same m.states i (part_of n s sight).state blank_state (slot_state m sound.networks sound.states i used);
+  })
 
   module _ (id : Id) (own : has id n ≡ true) where
-    slot : slot_of m id ≡ Slot.At i
+    slot : slot_of m id ≡ Ok i
     slot = own_slot m sound once ready i used id own
 
     named_same : (sight : Sight) → Same (named m id sight) (named a id sight)
@@ -141,12 +138,8 @@ module _
     records_same sight = rw (slot, alone_slot n s m.listening id own) refl
 
   gate_same : (room needs : ℕ) (o o' : Outcome) → Same o o' → Same (by_gate m (gate_of m room needs) o) (by_gate a (gate_of a room needs) o')
-  gate_same room needs o o' e = subst (λ (g : Gate). Same (by_gate m g o) (by_gate a (gate_of a room needs) o')) (sym (gates m a ready refl room needs))
-      (by_gate_lem (gate_of a room needs))
-    where
-      by_gate_lem : (g : Gate) → Same (by_gate m g o) (by_gate a g o')
-      by_gate_lem (Gate.Refused answer) = refused_same answer
-      by_gate_lem Gate.Open = e
+  gate_same room needs o o' e = subst (λ (g : Answer). Same (by_gate m g o) (by_gate a (gate_of a room needs) o')) (sym (gates m a ready refl room needs))
+      (gated (gate_of a room needs) o o' e)
 
   -- its outcome and its records, and that it leaves listening
   record OwnCall (c : Call) : Type 0 where
@@ -236,8 +229,8 @@ module _
   to_all_lem : (c : Call) → ToAll c (outcome m c)
   unfolding all_ticked listened
   to_all_lem = by_call m (λ c o rs. ToAll c o) (record {
-    refuses = λ c x r f. neither c (refused m x) (λ p. ticks_seen (ap (seen_as n) (sym p) ∙ f ready i used)) (refused_leaves (answer_number x) c r.refused);
-    declines = λ c id sight j x q f d r. neither c (refused m x) (λ p. one_way (sym q ∙ p)) (refused_leaves (answer_number x) c r.refused);
+    refuses = λ c x r f. neither c (refused m x) (λ p. ticks_seen (ap (seen_as n) (sym p) ∙ f ready i used)) (refused_leaves (call_refusal_number x) c r.refused);
+    declines = λ c id sight j x q f d r. neither c (refused m x) (λ p. one_way (sym q ∙ p)) (refused_leaves (call_refusal_number x) c r.refused);
     takes = λ c id sight j q f t k. neither c _ (λ p. one_way (sym q ∙ p)) (address_names 0 c id sight q).1;
     ticks = λ room g k. record { ticked = λ p. (record { number = refl; mode = refl }, refl); turned = λ to p. no_turn p };
     listens = λ value room g k v. record { ticked = λ p. nobody p; turned = λ to p. record { number = refl; mode = refl } };
@@ -245,17 +238,17 @@ module _
     reads = λ bytes f v. absurd (f ready);
     misreads = λ bytes fault f. absurd (f ready);
     writes = λ room f. neither (write room) _ nobody refl;
-    starts = λ q. absurd (let z : ◌≡◌ {A = ℕ} 0 1 = cc in omega arith);
+    starts = λ q. absurd cc;
   })
     where
       ticks_seen : {A : Type 0} → a_tick ≡ nothing → A
-      ticks_seen p = absurd (let z : ◌≡◌ {A = ℕ} 0 1 = cc in omega arith)
+      ticks_seen p = absurd cc
 
       one_way : {A : Type 0} {id : Id} {sight : Sight} → to id sight ≡ to_all → A
-      one_way p = absurd (let z : ◌≡◌ {A = ℕ} 0 1 = cc in omega arith)
+      one_way p = absurd cc
 
       nobody : {A : Type 0} → to_nobody ≡ to_all → A
-      nobody p = absurd (let z : ◌≡◌ {A = ℕ} 0 1 = cc in omega arith)
+      nobody p = absurd cc
 
   -- ---- one call more
   module _ (h : History) (held : Held n m i h) (c : Call) where
@@ -365,27 +358,27 @@ module _ (m₀ m : Manager) (h : History) (f : Tracked m₀ m h) (ready : m₀.s
       → (by_gate m (gate_of m room needs) o).answer ≡ (by_gate m₀ (gate_of m₀ room needs') o').answer
   gate_answers room needs needs' o o' e q =
       ap (λ (k : ℕ). (by_gate m (gate_of m room k) o).answer) e
-      ∙ ap (λ (g : Gate). (by_gate m g o).answer) (gates m m₀ f.started ready room needs') ∙ by_gate_lem (gate_of m₀ room needs')
+      ∙ ap (λ (g : Answer). (by_gate m g o).answer) (gates m m₀ f.started ready room needs') ∙ by_gate_lem (gate_of m₀ room needs')
     where
-      by_gate_lem : (g : Gate) → (by_gate m g o).answer ≡ (by_gate m₀ g o').answer
-      by_gate_lem (Gate.Refused a) = refl
-      by_gate_lem Gate.Open = q
+      by_gate_lem : (g : Answer) → (by_gate m g o).answer ≡ (by_gate m₀ g o').answer
+      by_gate_lem (Err a) = refl
+      by_gate_lem (Ok done) = q
 
   write_answers : (room : ℕ) → (writing_of m room).answer ≡ (writing_of m₀ room).answer
   unfolding writing_of
-  write_answers room = by_room m ∙ ap (λ (x : Settings). cond (leb (length (encode x)) room) Answer.Accepted Answer.TooShort) f.settings ∙ sym (by_room m₀)
+  write_answers room = by_room m ∙ ap (λ (x : Settings). cond (leb (length (encode x)) room) (Ok tt) (Err CallRefusal.TooShort)) f.settings ∙ sym (by_room m₀)
     where
-      by_room : (k : Manager) → (cond (leb (length (encode (settings_of k))) room) (accepted k (length (encode (settings_of k)))) (refused k Answer.TooShort)).answer
-          ≡ cond (leb (length (encode (settings_of k))) room) Answer.Accepted Answer.TooShort
+      by_room : (k : Manager) → (cond (leb (length (encode (settings_of k))) room) (accepted k (length (encode (settings_of k)))) (refused k CallRefusal.TooShort)).answer
+          ≡ cond (leb (length (encode (settings_of k))) room) (Ok tt) (Err CallRefusal.TooShort)
       by_room k = by_test (leb (length (encode (settings_of k))) room)
         where
-          by_test : (b : Bool) → (cond b (accepted k (length (encode (settings_of k)))) (refused k Answer.TooShort)).answer
-              ≡ cond b Answer.Accepted Answer.TooShort
+          by_test : (b : Bool) → (cond b (accepted k (length (encode (settings_of k)))) (refused k CallRefusal.TooShort)).answer
+              ≡ cond b (Ok tt) (Err CallRefusal.TooShort)
           by_test true = refl
           by_test false = refl
 
-  listen_answers : (value : ℕ) (above : Bool) → (cond above (refused m Answer.OutOfRange) (listened m (eqb 1 value))).answer
-      ≡ (cond above (refused m₀ Answer.OutOfRange) (listened m₀ (eqb 1 value))).answer
+  listen_answers : (value : ℕ) (above : Bool) → (cond above (refused m CallRefusal.OutOfRange) (listened m (eqb 1 value))).answer
+      ≡ (cond above (refused m₀ CallRefusal.OutOfRange) (listened m₀ (eqb 1 value))).answer
   unfolding listened
   listen_answers value true = refl
   listen_answers value false = refl
@@ -401,8 +394,8 @@ module _ (m₀ m : Manager) (h : History) (f : Tracked m₀ m h) (ready : m₀.s
       by_kind _ (is_poll handle) e = some e
       by_kind _ (is_read bytes) e = rw (f.started, ready) refl
       by_kind _ (is_write room) e =
-          ap (λ (g : Stage). (by_stage g (refused m Answer.NotReady) (writing_of m room) (writing_of m room)).answer) f.started ∙ write_answers room
-          ∙ sym (ap (λ (g : Stage). (by_stage g (refused m₀ Answer.NotReady) (writing_of m₀ room) (writing_of m₀ room)).answer) ready)
+          ap (λ (g : Stage). (by_stage g (refused m CallRefusal.NotReady) (writing_of m room) (writing_of m room)).answer) f.started ∙ write_answers room
+          ∙ sym (ap (λ (g : Stage). (by_stage g (refused m₀ CallRefusal.NotReady) (writing_of m₀ room) (writing_of m₀ room)).answer) ready)
       by_kind _ is_start e = rw (f.started, ready) refl
       by_kind _ (is_tick room) e = gate_answers room (tick_needs m) (tick_needs m₀) (all_ticked m) (all_ticked m₀) (same_needs m₀ m h f) refl
       by_kind _ (is_listen value room) e =

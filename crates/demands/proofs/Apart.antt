@@ -6,7 +6,7 @@ use Rattle.lists.proofs.Any.{any_append, every_cons, or_first, or_second, and_bo
 use Rattle.records.specs.declared.Record.{Record}
 use Rattle.settings.specs.declared.Network.{Network}
 use Rattle.settings.specs.declared.Id.{Id}
-use Rattle.settings.specs.declared.Transceiver.{Transceiver}
+use Rattle.std.specs.Prelude.{Option, None, Some}
 use Rattle.settings.specs.Settings.{handles_of, controllers_of, transceivers_of, listed, has_transceiver, member, has}
 use Rattle.settings.specs.Good.{Fresh, Distinct, all}
 use Rattle.settings.proofs.Good.{fresh_right}
@@ -58,10 +58,10 @@ pub record Once (ns : List Network) : Type 0 where
   pub controllers : Distinct (all controllers_of ns)
   pub transceivers : Distinct (all transceivers_of ns)
 
-pub has_transceiver_lem : (t : Transceiver) (x : ℕ) → has_transceiver t x ≡ member x (listed t)
+pub has_transceiver_lem : (t : Option ℕ) (x : ℕ) → has_transceiver t x ≡ member x (listed t)
 unfolding any
-has_transceiver_lem Transceiver.Absent x = refl
-has_transceiver_lem (Transceiver.Present y) x = sym (or-false _)
+has_transceiver_lem None x = refl
+has_transceiver_lem (Some y) x = sym (or-false _)
 
 module _ (ns : List Network) (once : Once ns) (i j : ℕ) (d : Network) (h : i < length ns) (k : j < length ns) where
   -- two networks that have an id are one

@@ -1,19 +1,20 @@
 -- Demand 1: every call comes back with an answer of its own list, and a refusal leaves the manager and the lent buffer exactly as they were. That
 -- every call comes back is in the contracts: no public function has a `requires`, and neither has `calling::make`, which makes any of them.
 use Rattle.lists.proofs.Basics.{ℕ, ◌≡◌, refl, sym, ap, subst, ◌∙◌, List, true, false, eqb}
+use Rattle.std.specs.Prelude.{Err}
+use Rattle.slots.specs.declared.CallRefusal.{CallRefusal}
 use Rattle.lists.specs.Lists.{any}
 use Rattle.lists.proofs.Any.{or_second}
 use Rattle.settings.specs.Settings.{member}
 use Rattle.entries.specs.declared.Fault.{Fault}
 use Rattle.entries.specs.declared.Fault.TheVariants.{Cut, UnknownTag, WrongLength, OutOfOrder, OutOfRange, UsedBefore, TooMany, NoTransceiver}
 use Rattle.entries.specs.declared.Fault.TheVariants.{Empty}
-use Rattle.slots.specs.declared.Answer.{Answer}
 use Rattle.slots.specs.declared.Manager.{Manager}
 use Rattle.slots.specs.declared.Outcome.{Outcome}
-use Rattle.slots.specs.Manager.{answer_number}
+use Rattle.slots.specs.Manager.{call_refusal_number, answer_number}
 use Rattle.slots.specs.Calls.{Call, read, all_ticked, listened, outcome, handed_out}
 use Rattle.calls.specs.Histories.{is_accepted, entry_of, refusals_of, answers_of}
-use Rattle.calls.proofs.ByCall.{ByCall, by_call}
+use Rattle.calls.proofs.ByCall.{by_call}
 use Rattle.calling.specs.declared.Task.{Task}
 use Rattle.calling.specs.Returned.{call_of, Returned}
 use Rattle.calling.proofs.ByTask.{by_task}
@@ -22,7 +23,7 @@ use Rattle.manager_theorems.proofs.Careful.{refused_changes_nothing, refused_unt
 use Rattle.demands.specs.DemandsOneAndTwo.{Demand1}
 
 -- a sheet's refusals are those of a reading
-fault_among : (bytes : List ℕ) (fault : Fault) → member (answer_number (Answer.Sheet fault)) (answers_of (read bytes)) ≡ true
+fault_among : (bytes : List ℕ) (fault : Fault) → member (answer_number (Err (CallRefusal.Sheet fault))) (answers_of (read bytes)) ≡ true
 unfolding any
 fault_among bytes Cut = refl
 fault_among bytes UnknownTag = refl
@@ -43,8 +44,8 @@ refusal_among c number e = or_second (eqb 0 number) _ e
 pub every_call_answers : (m : Manager) (c : Call) → member (entry_of m c).number (answers_of c) ≡ true
 unfolding any all_ticked listened
 every_call_answers m = by_call m (λ c o rs. member (answer_number o.answer) (answers_of c) ≡ true) (record {
-  refuses = λ c a r f. refusal_among c (answer_number a) r.among;
-  declines = λ c id sight i a e f d r. refusal_among c (answer_number a) r.among;
+  refuses = λ c a r f. refusal_among c (call_refusal_number a) r.among;
+  declines = λ c id sight i a e f d r. refusal_among c (call_refusal_number a) r.among;
   takes = λ c id sight i e f t k. refl;
   ticks = λ room s e. refl;
   listens = λ value room s e a. refl;

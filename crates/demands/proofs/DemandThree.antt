@@ -1,6 +1,8 @@
 -- Demand 3, and which bus-offs count, for every network of every started manager, over every history of calls since the start.
 use Rattle.lists.proofs.Basics.{ℕ, suc, ◌<◌, ◌≤◌, min, eq-eqb, le-ltb, ◌≡◌, refl, sym, ap, subst, ◌∙◌, [], ◌∷◌, ◌++◌, true}
 use Rattle.lists.proofs.Basics.{false, cond, eqb, ltb, length}
+use Rattle.std.specs.Prelude.{Result}
+use Rattle.slots.specs.declared.CallRefusal.{CallRefusal}
 use Rattle.records.specs.Records.{mode_number}
 use Rattle.settings.specs.declared.Network.{Network}
 use Rattle.settings.specs.declared.Id.{Id}
@@ -8,7 +10,6 @@ use Rattle.settings.specs.Settings.{controllers_of}
 use Rattle.settings.specs.Good.{InRange, Distinct}
 use Rattle.network.specs.declared.State.{State}
 use Rattle.slots.specs.declared.Stage.{Stage}
-use Rattle.slots.specs.declared.Slot.{Slot}
 use Rattle.slots.specs.declared.Manager.{Manager}
 use Rattle.slots.specs.Manager.{networks_of, network_at, state_at, tick_needs}
 use Rattle.slots.specs.Calls.{Call, poll, tick, by_slot, polled, gate_of, all_ticked, outcome}
@@ -95,7 +96,7 @@ module _ (m₀ : Manager) (b₀ : Begun m₀) (i : ℕ) (h₀ : i < length (netw
       let f = follow m₀ m h b₀ s in
       let own = ap (λ (k : Network). eqb k.handle n.handle) (same_network m₀ m h f i) ∙ eq-eqb n.handle n.handle refl in
       let slot = own_slot m f.sound (once m₀ m h f) f.started i (in_use m₀ m h f i h₀) (Id.OfNetwork n.handle) own in
-      ap (λ (x : Slot). (by_slot m x (λ j. polled m (state_at m j).told)).mode) slot
+      ap (λ (x : Result ℕ CallRefusal). (by_slot m x (λ j. polled m (state_at m j).told)).mode) slot
       ∙ ap (λ (t : State). mode_number t.told) (sym (f.state i h₀)) ∙ told_follows n (views_of n h) (f.ran i h₀)
 
   -- which bus-offs count, by the record in the slot

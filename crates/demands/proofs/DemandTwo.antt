@@ -1,43 +1,37 @@
 -- Demand 2: each call gives exactly what the rules give, and a sheet and its settings say the same, there and back.
-use Rattle.lists.proofs.Basics.{ℕ, ◌≤◌, arith, le-leb, leb-true, ◌≡◌, refl, sym, ap, subst, ◌∙◌, List, ◌∷◌, ◌++◌, Bool, true, false, leb, length}
+use Rattle.lists.proofs.Basics.{ℕ, ◌≤◌, le-leb, leb-true, ◌≡◌, refl, sym, ap, subst, ◌∙◌, List, ◌∷◌, ◌++◌, Bool, true, false, leb, length}
 use Rattle.lists.proofs.Basics.{take, take-append_seam}
+use Rattle.std.specs.Prelude.{Result, Ok, Err}
+use Rattle.slots.specs.declared.CallRefusal.{CallRefusal}
+use Rattle.entries.specs.declared.Fault.{Fault}
 use Rattle.settings.specs.declared.Settings.{Settings}
-use Rattle.sheet.specs.declared.Verdict.{Verdict}
 use Rattle.sheet.specs.declared.Reading.{Reading}
 use Rattle.sheet.specs.Reading.{decode}
 use Rattle.sheet.specs.Encode.{encode}
 use Rattle.sheet.specs.Writing.{buffer_after}
 use Rattle.sheet.proofs.Theorems.{write_then_read, read_then_write, one_sheet}
 use Rattle.slots.specs.declared.Stage.{Stage}
-use Rattle.slots.specs.declared.Answer.{Answer}
 use Rattle.slots.specs.declared.Manager.{Manager}
 use Rattle.slots.specs.declared.Outcome.{Outcome}
 use Rattle.slots.specs.Manager.{answer_number, settings_of, refused, accepted}
 use Rattle.slots.specs.Calls.{Call, read, write, by_stage, loaded, after_reading, read_into, writing_of, all_ticked, listened, outcome, written_into}
 use Rattle.calls.specs.Histories.{Entry, entry_of, History, Since, begun, goes}
-use Rattle.calls.proofs.ByCall.{ByCall, by_call}
-use Rattle.calling.specs.declared.Task.{Task}
-use Rattle.calling.specs.Returned.{New, Returned}
+use Rattle.calls.proofs.ByCall.{by_call}
+use Rattle.calling.specs.Returned.{New}
 use Rattle.calling.specs.Lived.{Lived}
 use Rattle.calling.proofs.Lived.{noted_entry, lived_since, lived_reached, cut, number_accepted}
 use Rattle.manager_theorems.proofs.Sound.{reached_sound}
 use Rattle.demands.specs.DemandsOneAndTwo.{calls_of, HasRead, NoneRead, GivesBack, TakesOver, Demand2}
 
 -- ---- the same calls
-head_same : {c d : Call} {cs ds : List Call} → c ∷ cs ≡ d ∷ ds → c ≡ d
-head_same e = cc
-
-tail_same : {c d : Call} {cs ds : List Call} → c ∷ cs ≡ d ∷ ds → cs ≡ ds
-tail_same e = cc
-
 -- the same calls on the same manager: the same managers after them, the same answers, and the same records handed out
 pub same_calls_same_history : (m₀ m m' : Manager) (h h' : History) → Since m₀ m h → Since m₀ m' h' → calls_of h ≡ calls_of h' → (m ≡ m') × (h ≡ h')
 same_calls_same_history m₀ _ _ _ _ begun begun e = (refl, refl)
-same_calls_same_history m₀ _ _ _ _ begun (goes m' h' c' p') e = absurd (let z : ◌≡◌ {A = ℕ} 0 1 = cc in omega arith)
-same_calls_same_history m₀ _ _ _ _ (goes m h c p) begun e = absurd (let z : ◌≡◌ {A = ℕ} 0 1 = cc in omega arith)
+same_calls_same_history m₀ _ _ _ _ begun (goes m' h' c' p') e = absurd cc
+same_calls_same_history m₀ _ _ _ _ (goes m h c p) begun e = absurd cc
 same_calls_same_history m₀ _ _ _ _ (goes m h c p) (goes m' h' c' p') e =
-    let r = same_calls_same_history m₀ m m' h h' p p' (tail_same e) in
-    let c-same : c ≡ c' = head_same e in
+    let r = same_calls_same_history m₀ m m' h h' p p' (cc) in
+    let c-same : c ≡ c' = cc in
     ((λ i. (outcome (r.0 i) (c-same i)).manager), (λ i. entry_of (r.0 i) (c-same i) ∷ r.1 i))
 
 -- ---- a sheet that a manager has
@@ -48,26 +42,26 @@ record Has (s : Settings) (m : Manager) : Type 0 where
 
 -- an accepted reading gives the manager the settings that the bytes say
 record Reads (m : Manager) (bytes : List ℕ) (o : Outcome) : Type 0 where
-  accepted : (decode bytes).answer ≡ Verdict.Accepted
+  accepted : (decode bytes).answer ≡ Ok tt
   manager : o.manager ≡ loaded m (decode bytes).settings
 
 module _ (m : Manager) (bytes : List ℕ) where
-  by_verdict : (d : Reading) (v : Verdict) → d.answer ≡ v → (after_reading m d v).answer ≡ Answer.Accepted
-      → (d.answer ≡ Verdict.Accepted) × ((after_reading m d v).manager ≡ loaded m d.settings)
-  by_verdict d Verdict.Accepted e a = (e, refl)
-  by_verdict d (Verdict.Refused fault) e a = absurd (let z : ◌≡◌ {A = ℕ} 0 1 = cc in omega arith)
+  by_verdict : (d : Reading) (v : Result Unit Fault) → d.answer ≡ v → (after_reading m d v).answer ≡ Ok tt
+      → (d.answer ≡ Ok tt) × ((after_reading m d v).manager ≡ loaded m d.settings)
+  by_verdict d (Ok done) e a = (e, refl)
+  by_verdict d (Err fault) e a = absurd cc
 
-  into : (read_into m bytes).answer ≡ Answer.Accepted → Reads m bytes (read_into m bytes)
+  into : (read_into m bytes).answer ≡ Ok tt → Reads m bytes (read_into m bytes)
   unfolding read_into
   into a = let v = by_verdict (decode bytes) (decode bytes).answer refl a in record { accepted = v.0; manager = v.1 }
 
-  by_stage_lem : (g : Stage) → (by_stage g (read_into m bytes) (read_into m bytes) (refused m Answer.Running)).answer ≡ Answer.Accepted
-      → Reads m bytes (by_stage g (read_into m bytes) (read_into m bytes) (refused m Answer.Running))
+  by_stage_lem : (g : Stage) → (by_stage g (read_into m bytes) (read_into m bytes) (refused m CallRefusal.Running)).answer ≡ Ok tt
+      → Reads m bytes (by_stage g (read_into m bytes) (read_into m bytes) (refused m CallRefusal.Running))
   by_stage_lem Stage.Empty a = into a
   by_stage_lem Stage.Loaded a = into a
-  by_stage_lem Stage.Started a = absurd (let z : ◌≡◌ {A = ℕ} 0 1 = cc in omega arith)
+  by_stage_lem Stage.Started a = absurd cc
 
-  accepted_reads : (outcome m (read bytes)).answer ≡ Answer.Accepted → Reads m bytes (outcome m (read bytes))
+  accepted_reads : (outcome m (read bytes)).answer ≡ Ok tt → Reads m bytes (outcome m (read bytes))
   unfolding outcome
   accepted_reads a = by_stage_lem m.stage a
 
@@ -80,13 +74,13 @@ call_keeps s m has =
       refuses = λ c a r f none. has;
       declines = λ c id sight i a e f d r none. has;
       takes = λ c id sight i e f t k none. record { loaded = has.loaded; settings = has.settings };
-      ticks = λ room e k none. record { loaded = λ f. absurd (let z : ◌≡◌ {A = ℕ} 0 1 = cc in omega arith); settings = has.settings };
+      ticks = λ room e k none. record { loaded = λ f. absurd cc; settings = has.settings };
       listens = λ value room e k a none. record { loaded = has.loaded; settings = has.settings };
       polls = λ handle i f none. has;
       reads = λ bytes f a none. absurd (none bytes refl refl);
       misreads = λ bytes fault f none. has;
       writes = λ room f none. has;
-      starts = λ e none. record { loaded = λ f. absurd (let z : ◌≡◌ {A = ℕ} 0 1 = cc in omega arith); settings = has.settings };
+      starts = λ e none. record { loaded = λ f. absurd cc; settings = has.settings };
     })
 
 -- and so do any such calls
@@ -126,20 +120,20 @@ record Writable (m : Manager) (room : ℕ) : Type 0 where
   loaded : m.stage ≡ Stage.Empty → ⊥
   fits : length (encode (settings_of m)) ≤ room
 
-accepted_writes : (m : Manager) (room : ℕ) → (outcome m (write room)).answer ≡ Answer.Accepted → Writable m room
+accepted_writes : (m : Manager) (room : ℕ) → (outcome m (write room)).answer ≡ Ok tt → Writable m room
 unfolding outcome writing_of
 accepted_writes m room a = of_stage m.stage refl a
   where
-    of_room : (b : Bool) → leb (length (encode (settings_of m))) room ≡ b → (writing_of m room).answer ≡ Answer.Accepted
+    of_room : (b : Bool) → leb (length (encode (settings_of m))) room ≡ b → (writing_of m room).answer ≡ Ok tt
         → length (encode (settings_of m)) ≤ room
     of_room true e a = leb-true (length (encode (settings_of m))) room e
-    of_room false e a = absurd (let f = rw e at a in let z : ◌≡◌ {A = ℕ} 0 1 = cc in omega arith)
+    of_room false e a = absurd (let f = rw e at a in cc)
 
     of_stage : (g : Stage) → m.stage ≡ g
-        → (by_stage g (refused m Answer.NotReady) (writing_of m room) (writing_of m room)).answer ≡ Answer.Accepted → Writable m room
-    of_stage Stage.Empty e a = absurd (let z : ◌≡◌ {A = ℕ} 0 1 = cc in omega arith)
-    of_stage Stage.Loaded e a = record { loaded = λ f. let z : ◌≡◌ {A = ℕ} 0 1 = cc in omega arith; fits = of_room _ refl a }
-    of_stage Stage.Started e a = record { loaded = λ f. let z : ◌≡◌ {A = ℕ} 0 1 = cc in omega arith; fits = of_room _ refl a }
+        → (by_stage g (refused m CallRefusal.NotReady) (writing_of m room) (writing_of m room)).answer ≡ Ok tt → Writable m room
+    of_stage Stage.Empty e a = absurd cc
+    of_stage Stage.Loaded e a = record { loaded = λ f. cc; fits = of_room _ refl a }
+    of_stage Stage.Started e a = record { loaded = λ f. cc; fits = of_room _ refl a }
 
 -- ---- from what code noted
 -- after an accepted reading and any calls up to the next one, the manager has a sheet, and it is the bytes that were read
@@ -156,7 +150,7 @@ lived_keeps m₀ m s e h bytes l read-them none =
     let reads = accepted_reads c.on bytes accepted in
     let new : c.result.manager ≡ loaded c.on (decode bytes).settings = ap (λ (o : Outcome). o.manager) result ∙ reads.manager in
     let had : Has (decode bytes).settings c.result.manager =
-    subst (Has (decode bytes).settings) (sym new) (record { loaded = λ f. absurd (let z : ◌≡◌ {A = ℕ} 0 1 = cc in omega arith); settings = refl }) in
+    subst (Has (decode bytes).settings) (sym new) (record { loaded = λ f. absurd cc; settings = refl }) in
     let has = since_keeps (decode bytes).settings c.result.manager m s had (lived_since c.result.manager m s c.since) none in
     record {
       loaded = has.loaded;
@@ -165,14 +159,14 @@ lived_keeps m₀ m s e h bytes l read-them none =
 
 -- what reading the manager's own sheet gives
 abbrev own_reading : Manager → Reading
-own_reading m = record { answer = Verdict.Accepted; place = length (encode (settings_of m)); settings = settings_of m }
+own_reading m = record { answer = Ok tt; place = length (encode (settings_of m)); settings = settings_of m }
 
 -- what a manager that code had from `new` on has written is read as its settings
 written_reads : (m₀ m : Manager) (h : History) → New m₀ → Lived m₀ m h → (before : List ℕ) (w : Outcome) (after : List ℕ)
-    → w ≡ outcome m (write (length before)) → after ≡ written_into m before → w.answer ≡ Answer.Accepted
+    → w ≡ outcome m (write (length before)) → after ≡ written_into m before → w.answer ≡ Ok tt
     → decode (take w.count after) ≡ own_reading m
 written_reads m₀ m h new l before w after result buffer a =
-    let can = accepted_writes m (length before) (subst (λ (o : Outcome). o.answer ≡ Answer.Accepted) result a) in
+    let can = accepted_writes m (length before) (subst (λ (o : Outcome). o.answer ≡ Ok tt) result a) in
     let wrote = writes_sheet m can.loaded before w after result buffer can.fits in
     let sheet : take w.count after ≡ encode (settings_of m) = rw (wrote.count, wrote.buffer) (take-append_seam (encode (settings_of m)) _) in
     ap decode sheet ∙ write_then_read (settings_of m) ((reached_sound m (lived_reached m₀ m h new l)).good can.loaded)

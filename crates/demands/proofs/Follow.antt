@@ -1,6 +1,8 @@
 -- A history of the manager since its start, as one network sees it, is one of the network's own rules; and the network's record is the one that they
 -- give.
 use Rattle.lists.proofs.Basics.{ℕ, zero, suc, ◌*◌, ◌<◌, arith, ◌≡◌, refl, sym, ap, subst, ◌∙◌, List, [], ◌∷◌, ◌++◌, length, get_or, take}
+use Rattle.std.specs.Prelude.{Ok}
+use Rattle.slots.specs.declared.CallRefusal.{CallRefusal}
 use Rattle.settings.specs.declared.Network.{Network}
 use Rattle.settings.specs.declared.Settings.{Settings}
 use Rattle.settings.specs.Settings.{blank_network, controllers_of}
@@ -9,7 +11,6 @@ use Rattle.settings.proofs.Good.{fresh_left, fresh_right}
 use Rattle.network.specs.declared.State.{State}
 use Rattle.network.specs.State.{started as started-state}
 use Rattle.slots.specs.declared.Stage.{Stage}
-use Rattle.slots.specs.declared.Answer.{Answer}
 use Rattle.slots.specs.declared.Manager.{Manager}
 use Rattle.slots.specs.declared.Outcome.{Outcome}
 use Rattle.slots.specs.Manager.{networks_of, settings_of, network_at, state_at, refused, accepted, summed, share, tick_needs}
@@ -27,13 +28,13 @@ use Rattle.demands.proofs.Parts.{entry_fits}
 
 -- ---- a manager that was just started
 -- a start that is accepted is one of a manager that has a sheet and was not started
-start_by : (m : Manager) (x : Outcome) (g : Stage) → (by_stage g (refused m Answer.NotReady) x (refused m Answer.Running)).answer ≡ Answer.Accepted
-    → by_stage g (refused m Answer.NotReady) x (refused m Answer.Running) ≡ x
-start_by m x Stage.Empty p = absurd (let z : ◌≡◌ {A = ℕ} 0 1 = cc in omega arith)
+start_by : (m : Manager) (x : Outcome) (g : Stage) → (by_stage g (refused m CallRefusal.NotReady) x (refused m CallRefusal.Running)).answer ≡ Ok tt
+    → by_stage g (refused m CallRefusal.NotReady) x (refused m CallRefusal.Running) ≡ x
+start_by m x Stage.Empty p = absurd cc
 start_by m x Stage.Loaded p = refl
-start_by m x Stage.Started p = absurd (let z : ◌≡◌ {A = ℕ} 0 1 = cc in omega arith)
+start_by m x Stage.Started p = absurd cc
 
-start_is : (m : Manager) → (outcome m start).answer ≡ Answer.Accepted → outcome m start ≡ accepted (started_from m) 0
+start_is : (m : Manager) → (outcome m start).answer ≡ Ok tt → outcome m start ≡ accepted (started_from m) 0
 unfolding outcome
 start_is m p = start_by m (accepted (started_from m) 0) m.stage p
 
@@ -59,7 +60,7 @@ begins : (m₀ : Manager) → Begun m₀ → Tracked m₀ m₀ []
 begins m₀ b =
     let s = reached_sound b.before b.reached in
     let e : (outcome b.before start).manager ≡ started_from b.before = ap (λ (o : Outcome). o.manager) (start_is b.before b.accepted) in
-    let t = call_sound b.before s start (λ bytes q f. absurd (let z : ◌≡◌ {A = ℕ} 0 1 = cc in omega arith)) in
+    let t = call_sound b.before s start (λ bytes q f. absurd cc) in
     subst (λ (m : Manager). Tracked m m []) (sym (b.same ∙ e)) (begins_at b.before s (subst Sound e t))
 
 module _ (m₀ m : Manager) (h : History) (f : Tracked m₀ m h) where
@@ -75,7 +76,7 @@ module _ (m₀ m : Manager) (h : History) (f : Tracked m₀ m h) where
 
   pub once : Once (networks_of m)
   once =
-      let g = f.sound.good (λ e. let started = f.started in let z : ◌≡◌ {A = ℕ} 0 1 = cc in omega arith) in
+      let g = f.sound.good (λ e. let started = f.started in cc) in
       record { handles = g.handles; controllers = g.controllers; transceivers = g.transceivers }
 
   -- the network's part in the call, by its settings at the start
@@ -116,7 +117,7 @@ pub record Latest (m₀ m : Manager) (e : Entry) (h : History) : Type 0 where
   pub manager : m ≡ (outcome on call).manager
 
 pub latest : (m₀ m : Manager) (x : History) → Since m₀ m x → (e : Entry) (h : History) → x ≡ e ∷ h → Latest m₀ m e h
-latest m₀ _ _ begun e h q = absurd (let z : ◌≡◌ {A = ℕ} 0 1 = cc in omega arith)
+latest m₀ _ _ begun e h q = absurd cc
 latest m₀ _ _ (goes m h' c s) e h q =
     let head : entry_of m c ≡ e = cc in
     let tail : h' ≡ h = cc in
@@ -147,5 +148,5 @@ module _ (m₀ : Manager) (b : Begun m₀) where
     pub distinct : Distinct (controllers_of (network_at m₀ i))
     distinct =
         let started = (begins m₀ b).started in
-        let g = sound.good (λ e. let z : ◌≡◌ {A = ℕ} 0 1 = cc in omega arith) in
+        let g = sound.good (λ e. cc) in
         subst (λ (n : Network). Distinct (controllers_of n)) (slot_network m₀ i l) (distinct_at (networks_of m₀) i blank_network [] g.controllers l)

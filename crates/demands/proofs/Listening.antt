@@ -19,10 +19,9 @@ use Rattle.handing.specs.Handing.{round_record, online, online_in, targets_of, o
 use Rattle.handing.proofs.Laws.{online_own}
 use Rattle.network.specs.declared.State.{State}
 use Rattle.slots.specs.declared.Stage.{Stage}
-use Rattle.slots.specs.declared.Answer.{Answer}
 use Rattle.slots.specs.declared.Manager.{Manager}
 use Rattle.slots.specs.declared.Outcome.{Outcome}
-use Rattle.slots.specs.Manager.{answer_number, networks_of, blank_state, network_at, state_at, with_listening}
+use Rattle.slots.specs.Manager.{call_refusal_number, Answer, answer_number, networks_of, blank_state, network_at, state_at, with_listening}
 use Rattle.slots.specs.Calls.{Call, start, changes, all_online, online_anew, all_ticked, listened, outcome, by_rules, handed_out}
 use Rattle.calls.specs.Histories.{Entry, entry_of, History, Since, begun, goes, Switch, turns, leaves, switch_of, switched, listening}
 use Rattle.calls.proofs.ByCall.{by_call}
@@ -46,14 +45,14 @@ use Rattle.demands.proofs.Follow.{Tracked, same_network, in_use, once, part, fol
 
 -- ---- a call that sets or clears it
 pub no_turn : {A : Type 0} {to : Bool} → leaves ≡ turns to → A
-no_turn e = absurd (let z : ◌≡◌ {A = ℕ} 0 1 = cc in omega arith)
+no_turn e = absurd cc
 
 same_turn : {from to : Bool} → turns from ≡ turns to → from ≡ to
 same_turn e = cc
 
 module _ (m : Manager) (started : m.stage ≡ Stage.Started) where
   unstarted : {A : Type 0} → m.stage ≡ Stage.Loaded → A
-  unstarted e = absurd (let z : ◌≡◌ {A = ℕ} 0 1 = cc in omega arith)
+  unstarted e = absurd cc
 
   -- it changes nothing else of a started manager
   pub turn_alone : (c : Call) (to : Bool) → switch_of (entry_of m c).number c ≡ turns to
@@ -79,8 +78,8 @@ module _ (m : Manager) (started : m.stage ≡ Stage.Started) where
   unfolding all_ticked listened handed_out
   by_turn P p = by_call m (λ c o rs. (to : Bool) → switch_of (answer_number o.answer) c ≡ turns to → P to (map (turned o.manager.listening) rs))
       (record {
-        refuses = λ c a r f to e. no_turn (sym (refused_leaves (answer_number a) c r.refused) ∙ e);
-        declines = λ c id sight i a n f d r to e. no_turn (sym (refused_leaves (answer_number a) c r.refused) ∙ e);
+        refuses = λ c a r f to e. no_turn (sym (refused_leaves (call_refusal_number a) c r.refused) ∙ e);
+        declines = λ c id sight i a n f d r to e. no_turn (sym (refused_leaves (call_refusal_number a) c r.refused) ∙ e);
         takes = λ c id sight i n f t k to e. no_turn (sym (address_names 0 c id sight n).1 ∙ e);
         ticks = λ room s k to e. no_turn e;
         listens = λ value room s k a to e.
@@ -276,7 +275,7 @@ module _ (m₀ : Manager) (b : Begun m₀) where
     where
       deaf : with_listening m₀ false ≡ m₀
       deaf = λ i.
-          record { stage = m₀.stage; listening = sym starts_deaf i; count = m₀.count; networks = m₀.networks; states = m₀.states }
+          record { stage = m₀.stage; listening = sym starts_deaf i; settings = m₀.settings; states = m₀.states }
   nothing_else _ _ (goes m h c s) =
       by_switch (switch_of (entry_of m c).number c) refl (follow m₀ m h b s).started (nothing_else m h s)
     where

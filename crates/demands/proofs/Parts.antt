@@ -2,6 +2,7 @@
 -- and of what is handed out the records that name its ids.
 use Rattle.lists.proofs.Basics.{ℕ, zero, suc, ◌<◌, arith, ◌≡◌, refl, sym, ap, subst, ◌∙◌, List, [], ◌∷◌, append-nil, Bool, true, false, cond}
 use Rattle.lists.proofs.Basics.{map, eqb, true≢false, false≢true, length, get_or, set, get_or-set_same, get_or-set_other}
+use Rattle.std.specs.Prelude.{None, Some, Option, Ok, Err}
 use Rattle.lists.specs.Lists.{any, every}
 use Rattle.lists.proofs.Any.{any_append_none, every_cons, every_append, every_weaken}
 use Rattle.lists.proofs.Tests.{split}
@@ -27,15 +28,13 @@ use Rattle.network.specs.Parts.{records_of}
 use Rattle.network_theorems.proofs.Theorems.{tick_own}
 use Rattle.network_theorems.proofs.Parts.{taken_number, refused_stays, part_own}
 use Rattle.slots.specs.declared.Stage.{Stage}
-use Rattle.slots.specs.declared.Answer.{Answer}
-use Rattle.slots.specs.declared.Slot.{Slot}
 use Rattle.slots.specs.declared.Manager.{Manager}
 use Rattle.slots.specs.declared.Outcome.{Outcome}
-use Rattle.slots.specs.Manager.{answer_number, networks_of, blank_state, network_at, state_at, gathered}
+use Rattle.slots.specs.Manager.{call_refusal_number, Answer, answer_number, networks_of, blank_state, network_at, state_at, gathered}
 use Rattle.slots.specs.Calls.{Call, slot_of, all_ticked, changes, all_online, online_anew, listened, outcome, by_rules, handed_out}
 use Rattle.calls.specs.Histories.{Address, to, address_of, seen_as, Switch, switch_of, entry_of}
 use Rattle.slots.proofs.Own.{slot_network, slot_state, ticked_own}
-use Rattle.calls.proofs.ByCall.{Found, by_slot_lem, answer_number_lem, Declines, ByCall, by_call}
+use Rattle.calls.proofs.ByCall.{Found, by_slot_lem, answer_number_lem, Declines, by_call}
 use Rattle.calls.proofs.ByKind.{address_names}
 use Rattle.manager_theorems.specs.Careful.{Sound}
 use Rattle.network_demands.proofs.Handed.{move_hands_none}
@@ -45,12 +44,12 @@ use Rattle.demands.proofs.Plainly.{plainly_none, plain_again, online_left_out}
 use Rattle.demands.proofs.Apart.{Once, has_once, own_once, keep_append, keep_all, keep_none}
 
 -- ---- the box of the demands plays the network's own part
-hit_is : (s : State) (hit : Hit) → hit_part s hit ≡ (let p : Part = record { reply = hit_reply hit; state = hit_after s hit } in p)
+hit_is : (s : State) (hit : Option Hit) → hit_part s hit ≡ (let p : Part = record { reply = hit_reply hit; state = hit_after s hit } in p)
 unfolding hit_part after_hit
-hit_is s Hit.Recover = refl
-hit_is s Hit.Restart = refl
-hit_is s Hit.Reset = refl
-hit_is s Hit.NotTaken = refl
+hit_is s (Some Hit.Recover) = refl
+hit_is s (Some Hit.Restart) = refl
+hit_is s (Some Hit.Reset) = refl
+hit_is s None = refl
 
 played_is : (n : Network) (s : State) (sight : Sight) → part_of n s sight ≡ played n s sight
 unfolding played part_of tick_state move_of is_done
@@ -83,12 +82,12 @@ tick_plain n s =
     pdus PduMode.Online = refl
     pdus PduMode.TxOffline = refl
 
-hit_plain : (n : Network) (hit : Hit) → any is_turned (hit_records n hit) ≡ false
+hit_plain : (n : Network) (hit : Option Hit) → any is_turned (hit_records n hit) ≡ false
 unfolding hit_records recovery reset any
-hit_plain n Hit.Recover = refl
-hit_plain n Hit.Restart = refl
-hit_plain n Hit.Reset = refl
-hit_plain n Hit.NotTaken = refl
+hit_plain n (Some Hit.Recover) = refl
+hit_plain n (Some Hit.Restart) = refl
+hit_plain n (Some Hit.Reset) = refl
+hit_plain n None = refl
 
 pub part_plain : (n : Network) (s : State) (sight : Sight) → any is_turned (records_of n s sight) ≡ false
 unfolding records_of any
@@ -204,9 +203,9 @@ module _
   other_slot id j f e q = true≢false (sym f.has ∙ ap (λ (k : ℕ). has id (network_at m k)) (sym q) ∙ e)
 
   -- an id of the network names its slot
-  pub own_slot : (id : Id) → has id n ≡ true → slot_of m id ≡ Slot.At i
-  own_slot id e = by_slot_lem m id (λ slot. slot ≡ Slot.At i) (λ f. absurd (f started)) (λ f. absurd (true≢false (sym e ∙ f i h)))
-      (λ j f. ap Slot.At (sym (same_slot id j f e)))
+  pub own_slot : (id : Id) → has id n ≡ true → slot_of m id ≡ Ok i
+  own_slot id e = by_slot_lem m id (λ slot. slot ≡ Ok i) (λ f. absurd (f started)) (λ f. absurd (true≢false (sym e ∙ f i h)))
+      (λ j f. ap Ok (sym (same_slot id j f e)))
 
   declined_plays : (id : Id) (sight : Sight) (j : ℕ) (a : Answer) → Found m id j → Declines (part_of (network_at m j) (state_at m j) sight) a
       → (own : Bool) → has id n ≡ own → Plays (cond own sight nothing) (answer_number a) s []
@@ -261,10 +260,10 @@ module _
   call_plays : (c : Call) → PlaysIn c (outcome m c) (by_rules m c)
   unfolding all_ticked listened part_of records_of
   call_plays = by_call m PlaysIn (record {
-    refuses = λ c a r f. refused_plays c _ a
-        (subst (λ (sight : Sight). Plays sight (answer_number a) s []) (sym (f started i h)) (unseen (answer_number a) s [] refl none_kept));
-    declines = λ c id sight j a e f d r. refused_plays c _ a
-        (subst (λ (x : Address). Plays (seen_as n x) (answer_number a) s []) (sym e) (declined_plays id sight j a f d (has id n) refl));
+    refuses = λ c a r f. refused_plays c _ (Err a)
+        (subst (λ (sight : Sight). Plays sight (call_refusal_number a) s []) (sym (f started i h)) (unseen (call_refusal_number a) s [] refl none_kept));
+    declines = λ c id sight j a e f d r. refused_plays c _ (Err a)
+        (subst (λ (x : Address). Plays (seen_as n x) (call_refusal_number a) s []) (sym e) (declined_plays id sight j (Err a) f d (has id n) refl));
     takes = λ c id sight j e f t k.
         subst (λ (x : Address). Plays (seen_as n x) 0 (stored j sight) (left 0 c m.listening (records_of (network_at m j) (state_at m j) sight))) (sym e)
         (subst (Plays (cond (has id n) sight nothing) 0 (stored j sight)) (sym (taken_left c id sight j e))
@@ -280,7 +279,7 @@ module _
     reads = λ bytes f e. absurd (f started);
     misreads = λ bytes fault f. absurd (f started);
     writes = λ room f. unseen 0 s [] refl none_kept;
-    starts = λ e. absurd (let z : ◌≡◌ {A = ℕ} 0 1 = cc in omega arith);
+    starts = λ e. absurd cc;
   })
     where
       taken_left : (c : Call) (id : Id) (sight : Sight) (j : ℕ) → address_of 0 c ≡ to id sight

@@ -1,7 +1,10 @@
 -- What a call does to listening, and what listening does to a call: which of the two it is after it, which records go out, and that nothing else goes
 -- by it.
-use Rattle.lists.proofs.Basics.{ℕ, arith, ◌≡◌, refl, sym, ap, ◌∙◌, List, [], ◌∷◌, map, Bool, true, false, not, cond, ◌&&◌}
+use Rattle.entries.specs.declared.Fault.{Fault}
+use Rattle.std.specs.Prelude.{Result, Ok, Err}
+use Rattle.lists.proofs.Basics.{ℕ, ◌≡◌, refl, sym, ap, ◌∙◌, List, [], ◌∷◌, map, Bool, true, false, cond, ◌&&◌}
 use Rattle.lists.proofs.Basics.{eqb, eqb-true, ltb, leb, length}
+use Rattle.slots.specs.declared.CallRefusal.{CallRefusal}
 use Rattle.lists.specs.Lists.{any, every}
 use Rattle.lists.proofs.Any.{and_both, every_cons}
 use Rattle.records.specs.declared.Record.{Record}
@@ -9,19 +12,14 @@ use Rattle.records.specs.Records.{listens, is_online, turned}
 use Rattle.records.proofs.Laws.{turned_none}
 use Rattle.settings.specs.declared.Network.{Network}
 use Rattle.settings.specs.declared.Id.{Id}
-use Rattle.sheet.specs.declared.Verdict.{Verdict}
 use Rattle.sheet.specs.Reading.{decode}
 use Rattle.sheet.specs.Encode.{encode}
 use Rattle.handing.specs.Handing.{own_record}
-use Rattle.network.specs.Parts.{Sight, sight_of, part_of, records_of}
-use Rattle.network.specs.Replies.{is_taken}
+use Rattle.network.specs.Parts.{Sight, sight_of, part_of}
 use Rattle.slots.specs.declared.Stage.{Stage}
-use Rattle.slots.specs.declared.Gate.{Gate}
-use Rattle.slots.specs.declared.Slot.{Slot}
-use Rattle.slots.specs.declared.Answer.{Answer}
 use Rattle.slots.specs.declared.Manager.{Manager}
 use Rattle.slots.specs.declared.Outcome.{Outcome}
-use Rattle.slots.specs.Manager.{answer_number, networks_of, settings_of, network_at, state_at, with_state, with_listening, refused, accepted}
+use Rattle.slots.specs.Manager.{call_refusal_number, Answer, answer_number, networks_of, settings_of, network_at, state_at, with_listening, refused, accepted}
 use Rattle.slots.specs.Manager.{tick_needs, listen_needs}
 use Rattle.slots.specs.Calls.{Call, listen, by_stage}
 use Rattle.slots.specs.Calls.{after_reading, read_into, writing_of, slot_of, by_slot, answer_of, settled, slot_outcome, named, slot_records, polled}
@@ -52,8 +50,8 @@ refused_leaves number c e = by_kind c (kind_of c)
 pub call_switches : (m : Manager) (c : Call) → (outcome m c).manager.listening ≡ switched (switch_of (entry_of m c).number c) m.listening
 unfolding all_ticked listened
 call_switches m = by_call m (λ c o rs. o.manager.listening ≡ switched (switch_of (answer_number o.answer) c) m.listening) (record {
-  refuses = λ c a r f. ap (λ (x : Switch). switched x m.listening) (sym (refused_leaves (answer_number a) c r.refused));
-  declines = λ c id sight i a e f d r. ap (λ (x : Switch). switched x m.listening) (sym (refused_leaves (answer_number a) c r.refused));
+  refuses = λ c a r f. ap (λ (x : Switch). switched x m.listening) (sym (refused_leaves (call_refusal_number a) c r.refused));
+  declines = λ c id sight i a e f d r. ap (λ (x : Switch). switched x m.listening) (sym (refused_leaves (call_refusal_number a) c r.refused));
   takes = λ c id sight i e f t k. ap (λ (x : Switch). switched x m.listening) (sym (address_names 0 c id sight e).1);
   ticks = λ room s e. refl;
   listens = λ value room s e a. refl;
@@ -140,41 +138,32 @@ module _ (m : Manager) where
   abbrev deaf : Manager
   deaf = with_listening m false
 
+  gate_hushed : (gate : Answer) (o o' : Outcome) → o ≡ hushed o' → by_gate deaf gate o ≡ hushed (by_gate m gate o')
+  gate_hushed (Err a) o o' e = refl
+  gate_hushed (Ok done) o o' e = e
+
   named_hushed : (id : Id) (sight : Sight) → named deaf id sight ≡ hushed (named m id sight)
   unfolding named slot_of slot_outcome settled
   named_hushed id sight = by_slot_of (slot_of m id)
     where
-      by_reply_lem : (taken : Bool) (i : ℕ) → cond taken
-          (accepted (with_state deaf i (part_of (network_at m i) (state_at m i) sight).state) (length (records_of (network_at m i) (state_at m i) sight)))
-          (refused deaf (answer_of (part_of (network_at m i) (state_at m i) sight).reply))
-          ≡ hushed (cond taken
-          (accepted (with_state m i (part_of (network_at m i) (state_at m i) sight).state) (length (records_of (network_at m i) (state_at m i) sight)))
-          (refused m (answer_of (part_of (network_at m i) (state_at m i) sight).reply)))
-      by_reply_lem true i = refl
-      by_reply_lem false i = refl
-
-      by_slot_of : (slot : Slot) → by_slot deaf slot (λ i. slot_outcome deaf i sight) ≡ hushed (by_slot m slot (λ i. slot_outcome m i sight))
-      by_slot_of (Slot.Refused a) = refl
-      by_slot_of (Slot.At i) = by_reply_lem (is_taken (part_of (network_at m i) (state_at m i) sight).reply) i
-
-  gate_hushed : (gate : Gate) (o o' : Outcome) → o ≡ hushed o' → by_gate deaf gate o ≡ hushed (by_gate m gate o')
-  gate_hushed (Gate.Refused a) o o' e = refl
-  gate_hushed Gate.Open o o' e = e
+      by_slot_of : (slot : Result ℕ CallRefusal) → by_slot deaf slot (λ i. slot_outcome deaf i sight) ≡ hushed (by_slot m slot (λ i. slot_outcome m i sight))
+      by_slot_of (Err a) = refl
+      by_slot_of (Ok i) = gate_hushed (answer_of (part_of (network_at m i) (state_at m i) sight).reply) _ _ refl
 
   read_hushed : (bytes : List ℕ) → read_into deaf bytes ≡ hushed (read_into m bytes)
   unfolding read_into
   read_hushed bytes = by_verdict (decode bytes).answer
     where
-      by_verdict : (v : Verdict) → after_reading deaf (decode bytes) v ≡ hushed (after_reading m (decode bytes) v)
-      by_verdict Verdict.Accepted = refl
-      by_verdict (Verdict.Refused fault) = refl
+      by_verdict : (v : Result Unit Fault) → after_reading deaf (decode bytes) v ≡ hushed (after_reading m (decode bytes) v)
+      by_verdict (Ok done) = refl
+      by_verdict (Err fault) = refl
 
   write_hushed : (room : ℕ) → writing_of deaf room ≡ hushed (writing_of m room)
   unfolding writing_of
   write_hushed room = by_room (leb (length (encode (settings_of m))) room)
     where
-      by_room : (fits : Bool) → cond fits (accepted deaf (length (encode (settings_of m)))) (refused deaf Answer.TooShort)
-          ≡ hushed (cond fits (accepted m (length (encode (settings_of m)))) (refused m Answer.TooShort))
+      by_room : (fits : Bool) → cond fits (accepted deaf (length (encode (settings_of m)))) (refused deaf CallRefusal.TooShort)
+          ≡ hushed (cond fits (accepted m (length (encode (settings_of m)))) (refused m CallRefusal.TooShort))
       by_room true = refl
       by_room false = refl
 
@@ -183,19 +172,19 @@ module _ (m : Manager) where
   by_stage_lem Stage.Loaded a b c a' b' c' p q r = q
   by_stage_lem Stage.Started a b c a' b' c' p q r = r
 
-  poll_hushed : (slot : Slot) → by_slot deaf slot (λ i. polled deaf (state_at m i).told) ≡ hushed (by_slot m slot (λ i. polled m (state_at m i).told))
-  poll_hushed (Slot.Refused a) = refl
-  poll_hushed (Slot.At i) = refl
+  poll_hushed : (slot : Result ℕ CallRefusal) → by_slot deaf slot (λ i. polled deaf (state_at m i).told) ≡ hushed (by_slot m slot (λ i. polled m (state_at m i).told))
+  poll_hushed (Err a) = refl
+  poll_hushed (Ok i) = refl
 
   -- a value that is refused, or a gate that is shut: the only ways in which a call to listen leaves it
-  listen_hushed : (value : ℕ) (gate : Gate) (above : Bool)
-      → switch_of (answer_number (by_gate m gate (cond above (refused m Answer.OutOfRange) (listened m (eqb 1 value)))).answer) (listen value 0) ≡ leaves
-      → by_gate deaf gate (cond above (refused deaf Answer.OutOfRange) (listened deaf (eqb 1 value)))
-      ≡ hushed (by_gate m gate (cond above (refused m Answer.OutOfRange) (listened m (eqb 1 value))))
+  listen_hushed : (value : ℕ) (gate : Answer) (above : Bool)
+      → switch_of (answer_number (by_gate m gate (cond above (refused m CallRefusal.OutOfRange) (listened m (eqb 1 value)))).answer) (listen value 0) ≡ leaves
+      → by_gate deaf gate (cond above (refused deaf CallRefusal.OutOfRange) (listened deaf (eqb 1 value)))
+      ≡ hushed (by_gate m gate (cond above (refused m CallRefusal.OutOfRange) (listened m (eqb 1 value))))
   unfolding listened
-  listen_hushed value (Gate.Refused a) above e = refl
-  listen_hushed value Gate.Open true e = refl
-  listen_hushed value Gate.Open false e = absurd (let z : ◌≡◌ {A = ℕ} 0 1 = cc in omega arith)
+  listen_hushed value (Err a) above e = refl
+  listen_hushed value (Ok done) true e = refl
+  listen_hushed value (Ok done) false e = absurd cc
 
   -- of a call that leaves it as it was
   pub call_hushed : (c : Call) → switch_of (entry_of m c).number c ≡ leaves → outcome deaf c ≡ hushed (outcome m c)
@@ -214,17 +203,17 @@ module _ (m : Manager) where
       by_kind _ (is_listen value room) e = listen_hushed value (gate_of m room (listen_needs m)) (ltb 1 value) e
 
   -- a call to listen whose records are not looked at: it is refused
-  listen_made : (value : ℕ) (gate : Gate) (above : Bool)
-      → switch_of (answer_number (by_gate m gate (cond above (refused m Answer.OutOfRange) (listened m (eqb 1 value)))).answer) (listen value 0) ≡ leaves
+  listen_made : (value : ℕ) (gate : Answer) (above : Bool)
+      → switch_of (answer_number (by_gate m gate (cond above (refused m CallRefusal.OutOfRange) (listened m (eqb 1 value)))).answer) (listen value 0) ≡ leaves
       → gate_records gate (cond above [] (online_anew deaf (eqb 1 value))) ≡ gate_records gate (cond above [] (online_anew m (eqb 1 value)))
   unfolding listened
-  listen_made value (Gate.Refused a) above e = refl
-  listen_made value Gate.Open true e = refl
-  listen_made value Gate.Open false e = absurd (let z : ◌≡◌ {A = ℕ} 0 1 = cc in omega arith)
+  listen_made value (Err a) above e = refl
+  listen_made value (Ok done) true e = refl
+  listen_made value (Ok done) false e = absurd cc
 
-  slot_made : (slot : Slot) (sight : Sight) → slot_records deaf slot sight ≡ slot_records m slot sight
-  slot_made (Slot.Refused a) sight = refl
-  slot_made (Slot.At i) sight = refl
+  slot_made : (slot : Result ℕ CallRefusal) (sight : Sight) → slot_records deaf slot sight ≡ slot_records m slot sight
+  slot_made (Err a) sight = refl
+  slot_made (Ok i) sight = refl
 
   call_made : (c : Call) → switch_of (entry_of m c).number c ≡ leaves → by_rules deaf c ≡ by_rules m c
   unfolding outcome by_rules slot_of gate_of tick_needs listen_needs

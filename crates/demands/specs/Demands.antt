@@ -1,9 +1,8 @@
 -- Demand 3 for a network of a started manager, over every history of calls since the start, as the network sees it. The words of its sentences stand
 -- in `network_demands`. A history has the latest call first: in s ++ (b ∷ h), s follows the bus-off or the stall b, which follows h.
-use Rattle.std.specs.Prelude.{ℕ, suc, ◌+◌, ◌*◌, ◌≤◌, min, ◌≡◌, ◌∷◌, ◌++◌, true, cond, eqb, length}
+use Rattle.std.specs.Prelude.{ℕ, suc, ◌+◌, ◌*◌, ◌≤◌, min, ◌≡◌, ◌∷◌, ◌++◌, true, cond, eqb, length, Ok}
 use Rattle.settings.specs.declared.Network.{Network}
 use Rattle.steps.specs.Steps.{step_number}
-use Rattle.slots.specs.declared.Answer.{Answer}
 use Rattle.slots.specs.declared.Manager.{Manager}
 use Rattle.slots.specs.Manager.{networks_of, network_at, state_at}
 use Rattle.slots.specs.Calls.{Call, start, tick, outcome}
@@ -17,7 +16,7 @@ use Rattle.demands.specs.View.{view_of, views_of}
 pub record Begun (m₀ : Manager) : Type 0 where
   pub before : Manager
   pub reached : Reached before
-  pub accepted : (outcome before start).answer ≡ Answer.Accepted
+  pub accepted : (outcome before start).answer ≡ Ok tt
   pub same : m₀ ≡ (outcome before start).manager
 
 -- R16: the room of a tick, by the formula of the rule

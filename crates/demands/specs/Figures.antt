@@ -1,10 +1,9 @@
 -- The figures F3, F4 and F6 to F8 of docs/RULES.md on histories of the product, by computation: in each all premises hold. From rest and from the
 -- start full is told on just that tick, after just so many records, of every outfit; and from anywhere there is a history of each outfit, and one of
 -- each delay, that needs every tick of the bound. Histories and what is seen have the latest first.
-use Rattle.std.specs.Prelude.{ℕ, ◌≡◌, List, [], ◌∷◌, ◌++◌, Bool, true, false, length, take}
+use Rattle.std.specs.Prelude.{ℕ, ◌≡◌, List, [], ◌∷◌, ◌++◌, Bool, true, false, length, take, None, Some}
 use Rattle.std.proofs.Math.Path.{refl}
 use Rattle.lists.specs.Lists.{any}
-use Rattle.settings.specs.declared.Transceiver.{Transceiver}
 use Rattle.settings.specs.declared.Relation.{Relation}
 use Rattle.settings.specs.declared.Network.{Network}
 use Rattle.network.specs.declared.Report.{Report}
@@ -55,7 +54,7 @@ computed_figure n l = lives n l
 
 -- two controllers and a transceiver, without partial networking
 abbrev plain : Network
-plain = network_with 2 (3 ∷ 4 ∷ 0 ∷ 0 ∷ []) (Transceiver.Present 5) false 1 Relation.Above
+plain = network_with 2 (3 ∷ 4 ∷ 0 ∷ 0 ∷ []) (Some 5) false 1 Relation.Above
 
 -- the bench network with other delays and another threshold
 abbrev delayed : ℕ → ℕ → ℕ → Network
@@ -64,7 +63,7 @@ delayed short long threshold =
       handle = 7;
       count = 1;
       controllers = 3 ∷ 0 ∷ 0 ∷ 0 ∷ [];
-      transceiver = Transceiver.Absent;
+      transceiver = None;
       short = short;
       long = long;
       ensure = 3;

@@ -2,13 +2,12 @@
 -- lengths of lent buffers or the sheets differ. Then wrong boxes: for each two histories that it has, and the sentence that is false of them. The
 -- sheet has two networks whose ids cross: one with handle 7 and controller 3, and one with handle 3 and controller 7. A history has the latest call
 -- first.
-use Rattle.std.specs.Prelude.{ℕ, ◌≡◌, refl, List, [], ◌∷◌, ◌++◌, Bool, true, false, cond, ◌&&◌, eqb, ltb, length, drop, replicate}
+use Rattle.std.specs.Prelude.{ℕ, ◌≡◌, refl, List, [], ◌∷◌, ◌++◌, Bool, true, false, cond, ◌&&◌, eqb, ltb, length, drop, replicate, None}
 use Rattle.std.proofs.Common.{arith, ap, sym, ◌∙◌}
 use Rattle.records.specs.declared.Record.{Record}
 use Rattle.records.specs.Records.{handed}
 use Rattle.settings.specs.declared.Network.{Network}
 use Rattle.settings.specs.declared.Relation.{Relation}
-use Rattle.settings.specs.declared.Transceiver.{Transceiver}
 use Rattle.settings.specs.Settings.{blank_network}
 use Rattle.steps.specs.declared.Step.{Step}
 use Rattle.steps.specs.Steps.{step_number}
@@ -32,7 +31,7 @@ abbrev seven : Network
 seven = network
 
 abbrev three : Network
-three = network_named 3 1 (7 ∷ 0 ∷ 0 ∷ 0 ∷ []) Transceiver.Absent false 0 Relation.Above
+three = network_named 3 1 (7 ∷ 0 ∷ 0 ∷ 0 ∷ []) None false 0 Relation.Above
 
 -- a manager that has them, just started
 abbrev began : Manager
@@ -40,8 +39,7 @@ began =
     record {
       stage = Stage.Started;
       listening = false;
-      count = 2;
-      networks = seven ∷ three ∷ replicate 6 blank_network;
+      settings = record { networks = seven ∷ three ∷ replicate 6 blank_network; count = 2 };
       states = started seven ∷ started three ∷ replicate 6 blank_state;
     }
 

@@ -2,14 +2,13 @@
 -- last four): `lives` plays the product's part in what is seen, and `lives_ran` says so. Then comes the entry that is wrong, and a proof that the
 -- named promise is false of it. One network is that of the bench sheet: handle 7, controller 3, delays 2 and 5, ensure time 3. The other differs from
 -- it by a controller 4, a transceiver 5 and partial networking. Histories have the latest first.
-use Rattle.std.specs.Prelude.{ℕ, ◌≤◌, List, [], ◌∷◌, true, get_or}
+use Rattle.std.specs.Prelude.{ℕ, ◌≤◌, List, [], ◌∷◌, true, get_or, Some}
 use native.Mathlib.Omega.{arith}
 use Rattle.std.proofs.Math.Path.{◌≡◌, refl, ap}
 use Rattle.std.proofs.Math.Bool.{true≢false, false≢true}
 use Rattle.std.proofs.Math.ListN.{length}
 use Rattle.records.specs.declared.Record.{Record}
 use Rattle.records.specs.Records.{handed as row}
-use Rattle.settings.specs.declared.Transceiver.{Transceiver}
 use Rattle.settings.specs.declared.Relation.{Relation}
 use Rattle.settings.specs.declared.Network.{Network}
 use Rattle.network.specs.declared.Report.{Report}
@@ -88,7 +87,7 @@ falling = a_tick ∷ a_request 0 ∷ full
 
 -- two controllers and a transceiver, with partial networking
 abbrev pub fitted : Network
-fitted = network_with 2 (3 ∷ 4 ∷ 0 ∷ 0 ∷ []) (Transceiver.Present 5) true 1 Relation.Above
+fitted = network_with 2 (3 ∷ 4 ∷ 0 ∷ 0 ∷ []) (Some 5) true 1 Relation.Above
 
 -- both controllers answer ok to the request for a mode
 abbrev pub both : ℕ → List Sight → List Sight

@@ -1,6 +1,6 @@
 -- Wrong boxes that demand 3 rules out, by computation: for each a history that such a box would have, and the sentence of demand 3 that is false of
 -- it. The network is that of the bench sheet: handle 7, controller 3, delays 2 and 5, threshold 1. A history has the latest call first.
-use Rattle.std.specs.Prelude.{ℕ, ◌≤◌, Bool, false}
+use Rattle.std.specs.Prelude.{ℕ, ◌≤◌, Bool, false, Option, None}
 use native.Mathlib.Omega.{arith}
 use Rattle.std.proofs.Math.Path.{◌≡◌, refl}
 use Rattle.std.proofs.Common.{sym, ◌∙◌}
@@ -11,7 +11,6 @@ use Rattle.records.specs.declared.Record.{Record}
 use Rattle.records.specs.Records.{handed}
 use Rattle.settings.specs.declared.Relation.{Relation}
 use Rattle.settings.specs.declared.Network.{Network}
-use Rattle.settings.specs.declared.Transceiver.{Transceiver}
 use Rattle.network.specs.Parts.{Sight, a_tick, a_bus_off, a_stall, an_answer, a_request}
 use Rattle.handing.specs.Handing.{targets_of, own_record}
 use Rattle.slots.specs.Calls.{Call, request, answer, tick}
@@ -25,7 +24,7 @@ use Rattle.demands.specs.Demands.{TickTaken}
 
 -- as the bench sheet says it, but for the handle, the controllers, the transceiver, partial networking and how bus-offs are held against which
 -- threshold: delays 2 and 5, ensure time 3
-abbrev pub network_named : ℕ → ℕ → List ℕ → Transceiver → Bool → ℕ → Relation → Network
+abbrev pub network_named : ℕ → ℕ → List ℕ → Option ℕ → Bool → ℕ → Relation → Network
 network_named handle count controllers transceiver partial threshold relation =
     record {
       handle = handle;
@@ -41,16 +40,16 @@ network_named handle count controllers transceiver partial threshold relation =
     }
 
 -- with its handle
-abbrev pub network_with : ℕ → List ℕ → Transceiver → Bool → ℕ → Relation → Network
+abbrev pub network_with : ℕ → List ℕ → Option ℕ → Bool → ℕ → Relation → Network
 network_with = network_named 7
 
 -- with controller 3, without a transceiver
 abbrev pub network : Network
-network = network_with 1 (3 ∷ 0 ∷ 0 ∷ 0 ∷ []) Transceiver.Absent false 1 Relation.Above
+network = network_with 1 (3 ∷ 0 ∷ 0 ∷ 0 ∷ []) None false 1 Relation.Above
 
 -- the same with field 07 and this threshold: the long delay from as many bus-offs on
 abbrev newer : ℕ → Network
-newer threshold = network_with 1 (3 ∷ 0 ∷ 0 ∷ 0 ∷ []) Transceiver.Absent false threshold Relation.AtOrAbove
+newer threshold = network_with 1 (3 ∷ 0 ∷ 0 ∷ 0 ∷ []) None false threshold Relation.AtOrAbove
 
 -- ---- entries
 
@@ -178,7 +177,7 @@ module _ where
 
   -- of two controllers, 3 and 4, it asks only the first, and takes its answer for both
   pub second_not_asked :
-      Answered (network_with 2 (3 ∷ 4 ∷ 0 ∷ 0 ∷ []) Transceiver.Absent false 1 Relation.Above) (tells_full ∷ answers ∷ asks ∷ wants 2 ∷ []) → ⊥
+      Answered (network_with 2 (3 ∷ 4 ∷ 0 ∷ 0 ∷ []) None false 1 Relation.Above) (tells_full ∷ answers ∷ asks ∷ wants 2 ∷ []) → ⊥
   unfolding computed_words
   second_not_asked a = false≢true (a refl 4 refl)
 

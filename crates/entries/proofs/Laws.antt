@@ -7,7 +7,11 @@ use Rattle.settings.specs.declared.Settings.{Settings}
 use Rattle.settings.specs.Settings.{networks_of}
 use Rattle.entries.specs.declared.Entry.{Entry}
 use Rattle.entries.specs.declared.Layout.{Layout}
-use Rattle.entries.specs.declared.Layout.TheVariants.{Unknown, Wrong, Byte}
+use Rattle.entries.specs.declared.Layout.TheVariants.{Byte}
+use Rattle.entries.specs.declared.Fault.{Fault}
+use Rattle.entries.specs.declared.Fault.TheVariants.{Cut, UnknownTag, WrongLength, OutOfOrder, OutOfRange, UsedBefore, TooMany, NoTransceiver}
+use Rattle.entries.specs.declared.Fault.TheVariants.{Empty}
+use Rattle.std.specs.Prelude.{Result, Ok, Err}
 use Rattle.entries.specs.Entries.{layout_of, wide, times_entry, whole_entry, field_entry}
 use Rattle.entries.specs.Grammar.{takes_relation}
 
@@ -31,12 +35,19 @@ times_at s at x y z p q r =
     rw (value_wide s at 0 (omega arith), value_wide s at 2 (omega arith), value_wide s at 4 (omega arith), first, p, q, r, last) refl
 
 -- ---- layout_of
--- a layout says which tag it can be, and whether the length is the tag's
-abbrev pub Says : ℕ → ℕ → Layout → Type 0
-Says tag n Unknown = (1 ≤ tag) × (tag ≤ 7) → ⊥
-Says tag n Wrong = ((1 ≤ tag) × (tag ≤ 7)) × (n ≡ cond (eqb tag 4) 6 1 → ⊥)
-Says tag n Byte = (n ≡ 1) × (1 ≤ tag) × (tag ≤ 7) × (tag ≡ 4 → ⊥)
-Says tag n Layout.Times = (n ≡ 6) × (tag ≡ 4)
+-- a layout says which tag it can be, and whether the length is the tag's; no other refusal than two comes of it
+abbrev pub Says : ℕ → ℕ → Result Layout Fault → Type 0
+Says tag n (Ok Byte) = (n ≡ 1) × (1 ≤ tag) × (tag ≤ 7) × (tag ≡ 4 → ⊥)
+Says tag n (Ok Layout.Times) = (n ≡ 6) × (tag ≡ 4)
+Says tag n (Err UnknownTag) = (1 ≤ tag) × (tag ≤ 7) → ⊥
+Says tag n (Err WrongLength) = ((1 ≤ tag) × (tag ≤ 7)) × (n ≡ cond (eqb tag 4) 6 1 → ⊥)
+Says tag n (Err Cut) = ⊥
+Says tag n (Err OutOfOrder) = ⊥
+Says tag n (Err OutOfRange) = ⊥
+Says tag n (Err UsedBefore) = ⊥
+Says tag n (Err TooMany) = ⊥
+Says tag n (Err NoTransceiver) = ⊥
+Says tag n (Err Empty) = ⊥
 
 pub layout_says : (tag n : ℕ) → Says tag n (layout_of tag n)
 unfolding layout_of
@@ -49,15 +60,15 @@ layout_says tag n =
     (λ d. split (Says tag n) (eqb n 1) (λ e. (eqb-true n 1 e, ltb-false tag 1 b, ltb-false 7 tag d, eqb-false tag 4 a))
     (λ e. ((ltb-false tag 1 b, ltb-false 7 tag d), rw a (eqb-false n 1 e))))))
 
-pub layout_byte : (tag n : ℕ) → layout_of tag n ≡ Byte → n ≡ 1
+pub layout_byte : (tag n : ℕ) → layout_of tag n ≡ Ok Byte → n ≡ 1
 layout_byte tag n e = (rw e at (layout_says tag n)).0
 
-pub layout_times : (tag n : ℕ) → layout_of tag n ≡ Layout.Times → n ≡ 6
+pub layout_times : (tag n : ℕ) → layout_of tag n ≡ Ok Layout.Times → n ≡ 6
 layout_times tag n e = (rw e at (layout_says tag n)).0
 
 -- ---- field_entry
 -- a whole field whose value begins at a place, by its layout
-pub entry_whole : (s : List ℕ) (at tag n : ℕ) (layout : Layout) →
+pub entry_whole : (s : List ℕ) (at tag n : ℕ) (layout : Result Layout Fault) →
     at + n ≤ length s → layout_of tag n ≡ layout → field_entry tag (take n (drop at s)) ≡ whole_entry layout tag (take n (drop at s))
 unfolding field_entry
 entry_whole s at tag n layout h e =

@@ -1,6 +1,6 @@
 -- The fields of a settings sheet: what a field says, the tests at it that need no settings, and the number of each refusal of a sheet. The rules
 -- S4 to S9, S15 to S18 and S27 of docs/RULES.md.
-use Rattle.std.specs.Prelude.{ℕ, ◌+◌, ◌*◌, List, cond, eqb, ltb, length, get_or}
+use Rattle.std.specs.Prelude.{ℕ, ◌+◌, ◌*◌, List, cond, eqb, ltb, length, get_or, Result, Ok, Err}
 use Rattle.fields.specs.Fields.{Row, stop, stub, overrun, field}
 use Rattle.entries.specs.declared.Fault.{Fault}
 use Rattle.entries.specs.declared.Fault.TheVariants.{Cut, UnknownTag, WrongLength, OutOfOrder, OutOfRange, UsedBefore, TooMany, NoTransceiver}
@@ -8,7 +8,7 @@ use Rattle.entries.specs.declared.Fault.TheVariants.{Empty}
 use Rattle.entries.specs.declared.Entry.{Entry}
 use Rattle.entries.specs.declared.Entry.TheVariants.{End, Bad}
 use Rattle.entries.specs.declared.Layout.{Layout}
-use Rattle.entries.specs.declared.Layout.TheVariants.{Unknown, Wrong, Byte}
+use Rattle.entries.specs.declared.Layout.TheVariants.{Byte}
 
 -- the number of each refusal of a sheet
 abbrev pub fault_number : Fault → ℕ
@@ -32,10 +32,10 @@ fault_number NoTransceiver = 0x37
 fault_number Empty = 0x38
 
 -- S4 to S9, S16, S17, S27: the tags are 01 to 07; field 04 has 6 bytes, the others have 1
-unfoldable pub layout_of : ℕ → ℕ → Layout
+unfoldable pub layout_of : ℕ → ℕ → Result Layout Fault
 layout_of tag n =
-    cond (eqb tag 0x04) (cond (eqb n 6) Layout.Times Wrong)
-    (cond (ltb tag 0x01) Unknown (cond (ltb 0x07 tag) Unknown (cond (eqb n 1) Byte Wrong)))
+    cond (eqb tag 0x04) (cond (eqb n 6) (Ok Layout.Times) (Err WrongLength))
+    (cond (ltb tag 0x01) (Err UnknownTag) (cond (ltb 0x07 tag) (Err UnknownTag) (cond (eqb n 1) (Ok Byte) (Err WrongLength))))
 
 -- S4 to S6, S8, S9, S27: what a field says whose value is the byte x, by its tag
 unfoldable pub byte_entry : ℕ → ℕ → Entry
@@ -56,22 +56,19 @@ unfoldable pub times_entry : List ℕ → Entry
 times_entry v = Entry.Times (wide v 0) (wide v 2) (wide v 4)
 
 -- S16, S17: what a whole field says, by its layout
-unfoldable pub whole_entry : Layout → ℕ → List ℕ → Entry
-whole_entry Unknown tag v = Bad UnknownTag
-whole_entry Wrong tag v = Bad WrongLength
-whole_entry Byte tag v = byte_entry tag (get_or v 0 0)
-whole_entry Layout.Times tag v = times_entry v
+unfoldable pub whole_entry : Result Layout Fault → ℕ → List ℕ → Entry
+whole_entry (Ok Byte) tag v = byte_entry tag (get_or v 0 0)
+whole_entry (Ok Layout.Times) tag v = times_entry v
+whole_entry (Err fault) tag v = Bad fault
 
 -- S16, S17: what a whole field says, by its tag and its value, whose length is held against the tag
 unfoldable pub field_entry : ℕ → List ℕ → Entry
 field_entry tag v = whole_entry (layout_of tag (length v)) tag v
 
 -- S16 to S18: why a field is refused whose value runs past the end; its tag and its length are looked at first
-abbrev pub overrun_fault : Layout → Fault
-overrun_fault Unknown = UnknownTag
-overrun_fault Wrong = WrongLength
-overrun_fault Byte = Cut
-overrun_fault Layout.Times = Cut
+abbrev pub overrun_fault : Result Layout Fault → Fault
+overrun_fault (Ok layout) = Cut
+overrun_fault (Err fault) = fault
 
 -- S15 to S18: what stands at the front of a row: the end, one or two bytes that are left, a field that runs past the end, or a whole field
 unfoldable pub entry_at : Row → Entry

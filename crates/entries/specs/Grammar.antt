@@ -1,9 +1,7 @@
 -- What an entry does to the settings: the tests at a field that need the settings so far, and what is stored of it. The rules S19 to S23, with the
 -- ranges of S4 to S9 and S27, and S26 of docs/RULES.md. Each definition makes its tests in the order of their rules.
-use Rattle.std.specs.Prelude.{ℕ, ◌+◌, List, Bool, true, false, cond, eqb, leb, replicate, set}
+use Rattle.std.specs.Prelude.{ℕ, ◌+◌, List, Bool, true, false, cond, eqb, leb, replicate, set, Option, None, Some, Result, Ok, Err}
 use Rattle.lists.specs.Lists.{lastly}
-use Rattle.settings.specs.declared.Transceiver.{Transceiver}
-use Rattle.settings.specs.declared.Transceiver.TheVariants.{Absent, Present}
 use Rattle.settings.specs.declared.Relation.{Relation}
 use Rattle.settings.specs.declared.Relation.TheVariants.{Above, AtOrAbove}
 use Rattle.settings.specs.declared.Network.{Network}
@@ -17,19 +15,17 @@ use Rattle.entries.specs.declared.Entry.TheVariants.{End, Bad}
 use Rattle.entries.specs.declared.Progress.{Progress}
 use Rattle.entries.specs.declared.Progress.TheVariants.{Named, Listed, Fitted, Timed, Limited}
 use Rattle.entries.specs.declared.Opening.{Opening}
-use Rattle.entries.specs.declared.Opening.TheVariants.{Closes, Begins, Refuses, Amends}
-use Rattle.entries.specs.declared.Filling.{Filling}
-use Rattle.entries.specs.declared.Filling.TheVariants.{More, Whole}
+use Rattle.entries.specs.declared.Opening.TheVariants.{Closes, Begins, Amends}
 use Rattle.entries.specs.declared.Filled.{Filled}
 
 -- ---- where a network may begin: field 01, field 07 of the network before, or the end
 
 -- S4, S21, S22: a handle, which any byte can be, is refused where it was used before, and then where its network is the ninth
-unfoldable pub opens_with : Settings → ℕ → Opening
+unfoldable pub opens_with : Settings → ℕ → Result Opening Fault
 opens_with s handle =
-    cond (used (OfNetwork handle) (networks_of s)) (Refuses UsedBefore)
-    (cond (leb most_networks s.count) (Refuses TooMany)
-    (Begins handle))
+    cond (used (OfNetwork handle) (networks_of s)) (Err UsedBefore)
+    (cond (leb most_networks s.count) (Err TooMany)
+    (Ok (Begins handle)))
 
 -- S27: a network that has no field 07 follows the older relation
 abbrev pub is_above : Relation → Bool
@@ -41,35 +37,23 @@ unfoldable pub takes_relation : List Network → Bool
 takes_relation ns = lastly (λ (n : Network). is_above n.relation) ns
 
 -- S19, S20, S27: field 07 is tested for its place, and for its one value; there is no value that says the older relation
-unfoldable pub on_relation : Settings → ℕ → Opening
-on_relation s x = cond (takes_relation (networks_of s)) (cond (eqb x 1) Amends (Refuses OutOfRange)) (Refuses OutOfOrder)
+unfoldable pub on_relation : Settings → ℕ → Result Opening Fault
+on_relation s x = cond (takes_relation (networks_of s)) (cond (eqb x 1) (Ok Amends) (Err OutOfRange)) (Err OutOfOrder)
 
 -- S27: field 07 is stored: from as many bus-offs as the threshold on the delay is the long one
 unfoldable pub add_relation : Network → Network
-add_relation n =
-    record {
-      handle = n.handle;
-      controllers = n.controllers;
-      count = n.count;
-      transceiver = n.transceiver;
-      short = n.short;
-      long = n.long;
-      ensure = n.ensure;
-      threshold = n.threshold;
-      partial = n.partial;
-      relation = AtOrAbove;
-    }
+add_relation n = record n { relation = AtOrAbove }
 
 -- S19: at the start only field 01 may stand, or the end; after field 06 field 07 too, and after 07 again field 01 or the end
-unfoldable pub opens : Settings → Entry → Opening
-opens s End = Closes
-opens s (Bad fault) = Refuses fault
+unfoldable pub opens : Settings → Entry → Result Opening Fault
+opens s End = Ok Closes
+opens s (Bad fault) = Err fault
 opens s (Entry.Handle handle) = opens_with s handle
-opens s (Entry.Controller id) = Refuses OutOfOrder
-opens s (Entry.Transceiver id) = Refuses OutOfOrder
-opens s (Entry.Times short long ensure) = Refuses OutOfOrder
-opens s (Entry.Threshold x) = Refuses OutOfOrder
-opens s (Entry.Partial x) = Refuses OutOfOrder
+opens s (Entry.Controller id) = Err OutOfOrder
+opens s (Entry.Transceiver id) = Err OutOfOrder
+opens s (Entry.Times short long ensure) = Err OutOfOrder
+opens s (Entry.Threshold x) = Err OutOfOrder
+opens s (Entry.Partial x) = Err OutOfOrder
 opens s (Entry.Relation x) = on_relation s x
 
 -- a network that has its handle
@@ -79,7 +63,7 @@ begun handle =
       handle = handle;
       controllers = replicate most_controllers 0;
       count = 0;
-      transceiver = Absent;
+      transceiver = None;
       short = 0;
       long = 0;
       ensure = 0;
@@ -132,159 +116,95 @@ takes_partial Limited = true
 
 -- ---- each field in a network
 
--- refused with a fault; the unfinished network is as it was before the field
-abbrev pub refused_for : Fault → Network → Filled
-refused_for fault n = record { filling = Filling.Refused fault; network = n }
-
 -- the field is taken and the network is not yet whole; the progress says which field was the last
-abbrev pub more : Progress → Network → Filled
-more progress n = record { filling = More progress; network = n }
+abbrev pub more : Progress → Network → Result Filled Fault
+more progress n = Ok (record { network = n; progress = Some progress })
 
 -- the network has all the fields that it has to have; next comes its field 07, a further network or the end
-abbrev pub whole : Network → Filled
-whole n = record { filling = Whole; network = n }
+abbrev pub whole : Network → Result Filled Fault
+whole n = Ok (record { network = n; progress = None })
 
 -- S14: the id goes into the first unused slot, so that the slots have the order of the sheet
 unfoldable pub add_controller : Network → ℕ → Network
-add_controller n id =
-    record {
-      handle = n.handle;
-      controllers = set n.controllers n.count id;
-      count = n.count + 1;
-      transceiver = n.transceiver;
-      short = n.short;
-      long = n.long;
-      ensure = n.ensure;
-      threshold = n.threshold;
-      partial = n.partial;
-      relation = n.relation;
-    }
+add_controller n id = record n { controllers = set n.controllers n.count id; count = n.count + 1 }
 
 -- S5, S19 to S22: a controller's id is tested for its place, its range, an earlier use in any network, and being the network's fifth
-unfoldable pub on_controller : Settings → Network → Progress → ℕ → Filled
+unfoldable pub on_controller : Settings → Network → Progress → ℕ → Result Filled Fault
 on_controller s n progress id =
     cond (takes_controller progress)
-    (cond (leb controller_ids id) (refused_for OutOfRange n)
-    (cond (used (OfController id) (networks_of s)) (refused_for UsedBefore n)
-    (cond (has (OfController id) n) (refused_for UsedBefore n)
-    (cond (leb most_controllers n.count) (refused_for TooMany n)
+    (cond (leb controller_ids id) (Err OutOfRange)
+    (cond (used (OfController id) (networks_of s)) (Err UsedBefore)
+    (cond (has (OfController id) n) (Err UsedBefore)
+    (cond (leb most_controllers n.count) (Err TooMany)
     (more Listed (add_controller n id))))))
-    (refused_for OutOfOrder n)
+    (Err OutOfOrder)
 
 -- S6: field 03 is stored; from here on the network has a transceiver
 unfoldable pub add_transceiver : Network → ℕ → Network
-add_transceiver n id =
-    record {
-      handle = n.handle;
-      controllers = n.controllers;
-      count = n.count;
-      transceiver = Present id;
-      short = n.short;
-      long = n.long;
-      ensure = n.ensure;
-      threshold = n.threshold;
-      partial = n.partial;
-      relation = n.relation;
-    }
+add_transceiver n id = record n { transceiver = Some id }
 
 -- S6, S19 to S21: a transceiver's id is tested for its place, its range and an earlier use
-unfoldable pub on_transceiver : Settings → Network → Progress → ℕ → Filled
+unfoldable pub on_transceiver : Settings → Network → Progress → ℕ → Result Filled Fault
 on_transceiver s n progress id =
     cond (takes_transceiver progress)
-    (cond (leb transceiver_ids id) (refused_for OutOfRange n)
-    (cond (used (OfTransceiver id) (networks_of s)) (refused_for UsedBefore n)
+    (cond (leb transceiver_ids id) (Err OutOfRange)
+    (cond (used (OfTransceiver id) (networks_of s)) (Err UsedBefore)
     (more Fitted (add_transceiver n id))))
-    (refused_for OutOfOrder n)
+    (Err OutOfOrder)
 
 -- S7: field 04 is stored, in ticks
 unfoldable pub add_times : Network → ℕ → ℕ → ℕ → Network
-add_times n short long ensure =
-    record {
-      handle = n.handle;
-      controllers = n.controllers;
-      count = n.count;
-      transceiver = n.transceiver;
-      short = short;
-      long = long;
-      ensure = ensure;
-      threshold = n.threshold;
-      partial = n.partial;
-      relation = n.relation;
-    }
+add_times n short long ensure = record n { short = short; long = long; ensure = ensure }
 
 -- S7, S11, S19, S20: the three times are tested for their place, and each for being 0; the long delay is not held against the short one
-unfoldable pub on_times : Network → Progress → ℕ → ℕ → ℕ → Filled
+unfoldable pub on_times : Network → Progress → ℕ → ℕ → ℕ → Result Filled Fault
 on_times n progress short long ensure =
     cond (takes_times progress)
-    (cond (eqb short 0) (refused_for OutOfRange n)
-    (cond (eqb long 0) (refused_for OutOfRange n)
-    (cond (eqb ensure 0) (refused_for OutOfRange n)
+    (cond (eqb short 0) (Err OutOfRange)
+    (cond (eqb long 0) (Err OutOfRange)
+    (cond (eqb ensure 0) (Err OutOfRange)
     (more Timed (add_times n short long ensure)))))
-    (refused_for OutOfOrder n)
+    (Err OutOfOrder)
 
 -- S8: field 05 is stored
 unfoldable pub add_threshold : Network → ℕ → Network
-add_threshold n threshold =
-    record {
-      handle = n.handle;
-      controllers = n.controllers;
-      count = n.count;
-      transceiver = n.transceiver;
-      short = n.short;
-      long = n.long;
-      ensure = n.ensure;
-      threshold = threshold;
-      partial = n.partial;
-      relation = n.relation;
-    }
+add_threshold n threshold = record n { threshold = threshold }
 
 -- S8, S19, S20: the threshold is tested for its place and its range
-unfoldable pub on_threshold : Network → Progress → ℕ → Filled
+unfoldable pub on_threshold : Network → Progress → ℕ → Result Filled Fault
 on_threshold n progress threshold =
     cond (takes_threshold progress)
-    (cond (leb thresholds threshold) (refused_for OutOfRange n)
+    (cond (leb thresholds threshold) (Err OutOfRange)
     (more Limited (add_threshold n threshold)))
-    (refused_for OutOfOrder n)
+    (Err OutOfOrder)
 
 -- S9: field 06 is stored; with partial networking the network goes down by steps 9 to 14
 unfoldable pub add_partial : Network → Bool → Network
-add_partial n partial =
-    record {
-      handle = n.handle;
-      controllers = n.controllers;
-      count = n.count;
-      transceiver = n.transceiver;
-      short = n.short;
-      long = n.long;
-      ensure = n.ensure;
-      threshold = n.threshold;
-      partial = partial;
-      relation = n.relation;
-    }
+add_partial n partial = record n { partial = partial }
 
 -- S23: field 03 has come; without it partial networking is refused
-abbrev pub present : Transceiver → Bool
-present Absent = false
-present (Present id) = true
+abbrev pub present : Option ℕ → Bool
+present None = false
+present (Some id) = true
 
 -- S9, S19, S20, S23: partial networking is 0 or 1 in its place, and where it is 1 there has to be a transceiver
-unfoldable pub on_partial : Network → Progress → ℕ → Filled
+unfoldable pub on_partial : Network → Progress → ℕ → Result Filled Fault
 on_partial n progress x =
     cond (takes_partial progress)
     (cond (eqb x 0) (whole (add_partial n false))
     (cond (eqb x 1)
-    (cond (present n.transceiver) (whole (add_partial n true)) (refused_for NoTransceiver n))
-    (refused_for OutOfRange n)))
-    (refused_for OutOfOrder n)
+    (cond (present n.transceiver) (whole (add_partial n true)) (Err NoTransceiver))
+    (Err OutOfRange)))
+    (Err OutOfOrder)
 
 -- S19, S26: what an entry does to an unfinished network: neither a further handle nor field 07 nor the end may come in it
-unfoldable pub fills : Settings → Network → Progress → Entry → Filled
-fills s n progress End = refused_for Cut n
-fills s n progress (Bad fault) = refused_for fault n
-fills s n progress (Entry.Handle handle) = refused_for OutOfOrder n
+unfoldable pub fills : Settings → Network → Progress → Entry → Result Filled Fault
+fills s n progress End = Err Cut
+fills s n progress (Bad fault) = Err fault
+fills s n progress (Entry.Handle handle) = Err OutOfOrder
 fills s n progress (Entry.Controller id) = on_controller s n progress id
 fills s n progress (Entry.Transceiver id) = on_transceiver s n progress id
 fills s n progress (Entry.Times short long ensure) = on_times n progress short long ensure
 fills s n progress (Entry.Threshold threshold) = on_threshold n progress threshold
 fills s n progress (Entry.Partial x) = on_partial n progress x
-fills s n progress (Entry.Relation x) = refused_for OutOfOrder n
+fills s n progress (Entry.Relation x) = Err OutOfOrder

@@ -10,40 +10,30 @@ use fields::Field;
 use settings::Network;
 pub use values::{entry_at, next_entry};
 
-// Why a sheet is refused.
-#[derive(Clone, Copy)]
+// Why a sheet is refused: each with its number.
+#[derive(Clone, Copy, Debug, PartialEq, Eq)]
 pub enum Fault {
-    Cut,
-    UnknownTag,
-    WrongLength,
-    OutOfOrder,
-    OutOfRange,
-    UsedBefore,
-    TooMany,
-    NoTransceiver,
-    Empty,
+    Cut = 0x30,
+    UnknownTag = 0x31,
+    WrongLength = 0x32,
+    OutOfOrder = 0x33,
+    OutOfRange = 0x34,
+    UsedBefore = 0x35,
+    TooMany = 0x36,
+    NoTransceiver = 0x37,
+    Empty = 0x38,
 }
 
-impl Fault {
-    // The number of this refusal.
-    pub fn number(self) -> u8
-        ensures { result ≡ fault_number self }
-    {
-        match self {
-            Fault::Cut => 0x30,
-            Fault::UnknownTag => 0x31,
-            Fault::WrongLength => 0x32,
-            Fault::OutOfOrder => 0x33,
-            Fault::OutOfRange => 0x34,
-            Fault::UsedBefore => 0x35,
-            Fault::TooMany => 0x36,
-            Fault::NoTransceiver => 0x37,
-            Fault::Empty => 0x38,
-        }
+impl From<Fault> for u8 {
+    ghost from_gives = { λ fault n. n ≡ fault_number fault };
+
+    fn from(fault: Fault) -> u8 {
+        fault as u8
     }
 }
 
-// What a field of a sheet says.
+// What a field of a sheet says. The end and a bad field stay beside the seven kinds: where each of the nine may stand is one table, for which `opens`
+// and `fills` say what it does.
 #[derive(Clone, Copy)]
 pub enum Entry {
     // There is no field: the bytes are at their end.
@@ -60,6 +50,7 @@ pub enum Entry {
 }
 
 impl Entry {
+    // The tags of the fields. They stay numbers: they are bytes of a sheet, and the one place that tells them apart is `byte_entry`.
     pub const HANDLE_TAG: u8 = 0x01;
 
     pub const CONTROLLER_TAG: u8 = 0x02;
@@ -97,16 +88,15 @@ impl Entry {
     pub const AT_OR_ABOVE: u8 = 1;
 }
 
-// How the head of a field, its tag and its length, lays the field out.
-#[derive(Clone, Copy)]
+// How the head of a field, its tag and its length, lays out a value: one byte, or the three times.
+#[derive(Clone, Copy, Debug, PartialEq, Eq)]
 pub enum Layout {
-    Unknown,
-    Wrong,
     Byte,
     Times,
 }
 
 // An entry, and the place after its field.
+// Stays a struct: a reader of fields gives both for every field, a bad one too (S13, `ReadAt`).
 #[derive(Clone, Copy)]
 pub struct FoundEntry {
     pub entry: Entry,
@@ -114,7 +104,7 @@ pub struct FoundEntry {
 }
 
 // How far an unfinished network has come, by its last field: 01, 02, 03, 04 or 05.
-#[derive(Clone, Copy)]
+#[derive(Clone, Copy, Debug, PartialEq, Eq)]
 pub enum Progress {
     Named,
     Listed,
@@ -123,27 +113,18 @@ pub enum Progress {
     Limited,
 }
 
-// What an entry does where a network may begin.
-#[derive(Clone, Copy)]
+// What an entry that is taken does where a network may begin.
+#[derive(Clone, Copy, Debug, PartialEq, Eq)]
 pub enum Opening {
     Closes,
     Begins(u8),
-    Refuses(Fault),
     // It is field 07 of the network before.
     Amends,
 }
 
-// What an entry does to an unfinished network.
-#[derive(Clone, Copy)]
-pub enum Filling {
-    More(Progress),
-    Whole,
-    Refused(Fault),
-}
-
-// That, and the network with what the entry says.
+// A network with what an entry says: how far it has come, or none where it is whole.
 #[derive(Clone, Copy)]
 pub struct Filled {
-    pub filling: Filling,
     pub network: Network,
+    pub progress: Option<Progress>,
 }

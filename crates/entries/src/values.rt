@@ -8,47 +8,34 @@ use crate::{Entry, Fault, FoundEntry, Layout};
 use fields::{Field, Reader};
 
 // The tag is known and the length is that of the tag.
-pub fn layout_of(tag: u8, length: u16) -> Layout
+#[tactic(auto, unfolding(crate::specs::Entries::layout_of))]
+pub fn layout_of(tag: u8, length: u16) -> Result<Layout, Fault>
     ensures { result ≡ layout_of tag length }
 {
-    if tag == Entry::TIMES_TAG {
-        if length != Entry::TIMES_LENGTH {
-            return Layout::Wrong;
-        }
-        return Layout::Times;
+    let (layout, right) = match tag {
+        Entry::TIMES_TAG => (Layout::Times, Entry::TIMES_LENGTH),
+        Entry::HANDLE_TAG..=Entry::RELATION_TAG => (Layout::Byte, Entry::BYTE_LENGTH),
+        _ => return Err(Fault::UnknownTag),
+    };
+    if length != right {
+        return Err(Fault::WrongLength);
     }
-    if tag < Entry::HANDLE_TAG {
-        return Layout::Unknown;
-    }
-    if Entry::RELATION_TAG < tag {
-        return Layout::Unknown;
-    }
-    if length != Entry::BYTE_LENGTH {
-        return Layout::Wrong;
-    }
-    Layout::Byte
+    Ok(layout)
 }
 
 // A field whose value is one byte.
+#[tactic(auto, unfolding(crate::specs::Entries::byte_entry))]
 pub fn byte_entry(tag: u8, value: u8) -> Entry
     ensures { result ≡ byte_entry tag value }
 {
-    if tag == Entry::HANDLE_TAG {
-        return Entry::Handle(value);
+    match tag {
+        Entry::HANDLE_TAG => Entry::Handle(value),
+        Entry::CONTROLLER_TAG => Entry::Controller(value),
+        Entry::TRANSCEIVER_TAG => Entry::Transceiver(value),
+        Entry::THRESHOLD_TAG => Entry::Threshold(value),
+        Entry::PARTIAL_TAG => Entry::Partial(value),
+        _ => Entry::Relation(value),
     }
-    if tag == Entry::CONTROLLER_TAG {
-        return Entry::Controller(value);
-    }
-    if tag == Entry::TRANSCEIVER_TAG {
-        return Entry::Transceiver(value);
-    }
-    if tag == Entry::THRESHOLD_TAG {
-        return Entry::Threshold(value);
-    }
-    if tag == Entry::PARTIAL_TAG {
-        return Entry::Partial(value);
-    }
-    Entry::Relation(value)
 }
 
 // The number at a place of the bytes.
@@ -78,10 +65,8 @@ fn overrun_fault(tag: u8, length: u16) -> Fault
     ensures { result ≡ overrun_fault (layout_of tag length) }
 {
     match layout_of(tag, length) {
-        Layout::Unknown => Fault::UnknownTag,
-        Layout::Wrong => Fault::WrongLength,
-        Layout::Byte => Fault::Cut,
-        Layout::Times => Fault::Cut,
+        Ok(_) => Fault::Cut,
+        Err(fault) => fault,
     }
 }
 
@@ -91,10 +76,9 @@ fn whole_entry(bytes: &[u8], at: usize, tag: u8, length: u16) -> Entry
     ensures { result ≡ field_entry tag (take length (drop at bytes.now)) }
 {
     match layout_of(tag, length) {
-        Layout::Unknown => Entry::Bad(Fault::UnknownTag),
-        Layout::Wrong => Entry::Bad(Fault::WrongLength),
-        Layout::Byte => byte_entry(tag, bytes[at]),
-        Layout::Times => times_entry(bytes, at),
+        Ok(Layout::Byte) => byte_entry(tag, bytes[at]),
+        Ok(Layout::Times) => times_entry(bytes, at),
+        Err(fault) => Entry::Bad(fault),
     }
 }
 
@@ -102,27 +86,15 @@ fn whole_entry(bytes: &[u8], at: usize, tag: u8, length: u16) -> Entry
 pub fn entry_at(bytes: &[u8], at: usize) -> FoundEntry
     ensures { ReadAt entry_at bytes.now at result.entry result.next }
 {
-    match fields::field_at(bytes, at) {
-        Field::End => FoundEntry {
-            entry: Entry::End,
-            next: at,
-        },
-        Field::Stub { tag: _ } => FoundEntry {
-            entry: Entry::Bad(Fault::Cut),
-            next: at,
-        },
-        Field::Overrun { tag, length } => {
-            let fault = overrun_fault(tag, length);
-            FoundEntry {
-                entry: Entry::Bad(fault),
-                next: at,
-            }
-        }
+    let (entry, next) = match fields::field_at(bytes, at) {
+        Field::End => (Entry::End, at),
+        Field::Stub { .. } => (Entry::Bad(Fault::Cut), at),
+        Field::Overrun { tag, length } => (Entry::Bad(overrun_fault(tag, length)), at),
         Field::Whole { tag, length, next } => {
-            let entry = whole_entry(bytes, at + Field::HEAD, tag, length);
-            FoundEntry { entry, next }
+            (whole_entry(bytes, at + Field::HEAD, tag, length), next)
         }
-    }
+    };
+    FoundEntry { entry, next }
 }
 
 // What stands at the place of a reader of a sheet.

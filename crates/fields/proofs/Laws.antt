@@ -24,7 +24,7 @@ holds_few (suc n) (b ∷ l) h = holds_few n l (omega arith)
 pub holds_true : (n : ℕ) (l : List ℕ) → holds n l ≡ true → n ≤ length l
 unfolding holds
 holds_true zero l e = omega arith
-holds_true (suc n) [] e = absurd (let z : ◌≡◌ {A = ℕ} 0 1 = cc in omega arith)
+holds_true (suc n) [] e = absurd cc
 holds_true (suc n) (b ∷ l) e = let h = holds_true n l e in omega arith
 
 -- ---- front, in terms of the bytes at their places

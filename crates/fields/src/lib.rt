@@ -4,7 +4,7 @@
 ghost use Rattle.std.specs.Prelude.{◌≡◌, ◌+◌, ◌*◌, drop};
 ghost use Rattle.fields.specs.Fields.{front};
 
-// What stands at a place of the bytes.
+// What stands at a place of the bytes. Stays an enum: its four cases are those of `front`, and what a cut field means is for each reader to say.
 #[derive(Clone, Copy)]
 pub enum Field {
     // No byte is left.
@@ -22,8 +22,6 @@ impl Field {
     pub const HEAD: usize = 3;
     // How far from the tag the length stands.
     pub const LENGTH: usize = 1;
-    // The numbers that a byte can be.
-    pub const BYTE: u16 = 256;
     // The bytes of a number.
     pub const NUMBER: usize = 2;
 }
@@ -32,7 +30,7 @@ impl Field {
 pub fn number(high: u8, low: u8) -> u16
     ensures { result ≡ high * 256 + low }
 {
-    (high as u16) * Field::BYTE + (low as u16)
+    u16::from_be_bytes([high, low])
 }
 
 // S1: the field at a place of the bytes. Past the last byte there is none.
@@ -60,6 +58,7 @@ pub fn field_at(bytes: &[u8], at: usize) -> Field
 }
 
 // S13: a reader has the bytes that were lent, and the place in them up to which they are read.
+// Stays a slice and a place: K5 and S13 say both, and a refusal names the place.
 #[derive(Clone, Copy)]
 pub struct Reader<'a> {
     pub bytes: &'a [u8],
@@ -78,9 +77,6 @@ impl<'a> Reader<'a> {
     pub fn moved_to(self, place: usize) -> Reader<'a>
         ensures { (result.bytes ≡ self.entry.bytes) × (result.place ≡ place) }
     {
-        Reader {
-            bytes: self.bytes,
-            place,
-        }
+        Reader { place, ..self }
     }
 }

@@ -1,5 +1,5 @@
 -- What a move hands out: how many records at most, and that each names only the network's own ids.
-use Rattle.lists.proofs.Basics.{ℕ, ◌+◌, ◌≤◌, max, arith, eq-eqb, ◌≡◌, refl, sym, ◌∙◌, List, [], ◌∷◌, ◌++◌, map, Bool, true, false, or-true, eqb, length, length-map}
+use Rattle.lists.proofs.Basics.{ℕ, ◌+◌, ◌≤◌, max, arith, eq-eqb, ◌≡◌, refl, ◌∙◌, List, [], ◌∷◌, ◌++◌, map, true, or-true, eqb, length, length-map}
 use Rattle.lists.proofs.Basics.{length-append}
 use Rattle.lists.specs.Lists.{any, every}
 use Rattle.lists.proofs.Tests.{split}
@@ -8,10 +8,7 @@ use Rattle.records.specs.declared.Record.{Record}
 use Rattle.records.specs.declared.PduMode.{PduMode}
 use Rattle.records.specs.declared.Mode.{Mode}
 use Rattle.records.specs.declared.Notice.{Notice}
-use Rattle.records.specs.Wrote.{Room, Wrote}
-use Rattle.records.proofs.Laws.{wrote_none}
-use Rattle.settings.specs.declared.Transceiver.{Transceiver}
-use Rattle.settings.specs.declared.Transceiver.TheVariants.{Absent, Present}
+use Rattle.std.specs.Prelude.{Option, None, Some}
 use Rattle.settings.specs.declared.Network.{Network}
 use Rattle.settings.specs.Settings.{handles_of, controllers_of, transceivers_of, listed, member}
 use Rattle.steps.specs.declared.Step.{Step}
@@ -26,9 +23,9 @@ use Rattle.handing.specs.Handing.{round_record, errand_record, requests, enterin
 use Rattle.handing.specs.Handing.{move_records, recovery, reset, online, online_in, targets_of, own_record}
 
 -- ---- how many
-length_errand : (errand : Errand) (t : Transceiver) → length (map (errand_record errand) (listed t)) ≤ 1
-length_errand errand Absent = omega arith
-length_errand errand (Present x) = omega arith
+length_errand : (errand : Errand) (t : Option ℕ) → length (map (errand_record errand) (listed t)) ≤ 1
+length_errand errand None = omega arith
+length_errand errand (Some x) = omega arith
 
 -- what asks a transceiver is one record, and what asks the controllers is one for each
 length_requests : (ask : Ask) (n : Network) → length (requests ask n) ≤ max 1 (length (controllers_of n))
@@ -42,12 +39,6 @@ length_requests Ask.CheckWake n = omega (arith, length_errand Errand.Check n.tra
 length_entering : (n : Network) (pdu : PduMode) (mode : Mode) (notice : Notice) → length (entering n pdu mode notice) ≡ length (controllers_of n) + 2
 unfolding entering
 length_entering n pdu mode notice = simp (length-append, length-map)
-
--- so room for entering with one mode is room for entering with another
-pub room_entering : {before : List ℕ} {k : ℕ} (n : Network) (pdu pdu' : PduMode) (mode mode' : Mode) (notice notice' : Notice) →
-    Room before k (entering n pdu mode notice) → Room before k (entering n pdu' mode' notice')
-room_entering n pdu pdu' mode mode' notice notice' room =
-    record { fits = omega (arith, room.fits, length_entering n pdu mode notice, length_entering n pdu' mode' notice') }
 
 length_notices : (handle : ℕ) (told : Mode) → length (down_notices handle told) ≤ 2
 unfolding down_notices
@@ -165,18 +156,3 @@ module _ (n : Network) (step : Step) where
   pub online_own : every (own_record n) (online_in n step) ≡ true
   unfolding online_in
   online_own = split (λ (rs : List Record). every (own_record n) rs ≡ true) (is_online_step step) (λ _. round_own n (Round.Pdu online)) (λ _. none_own n)
-
-  -- by the test that the code makes: room for it, and what is written
-  module _ (x : Bool) (e : x ≡ is_online_step step) where
-    pub online_room : {b : List ℕ} {k : ℕ} → x ≡ true → Room b k (online_in n step) → Room b k (map (round_record (Round.Pdu online)) (controllers_of n))
-    unfolding online_in
-    online_room t room = rw (sym e ∙ t) at room
-
-    pub online_wrote : {b b₁ : List ℕ} {k r : ℕ} → x ≡ true → Wrote b b₁ k r (map (round_record (Round.Pdu online)) (controllers_of n))
-        → Wrote b b₁ k r (online_in n step)
-    unfolding online_in
-    online_wrote t w = rw (sym e ∙ t) w
-
-    pub online_quiet : (b : List ℕ) (k : ℕ) → x ≡ false → Wrote b b k k (online_in n step)
-    unfolding online_in
-    online_quiet b k f = rw (sym e ∙ f) (wrote_none b k)

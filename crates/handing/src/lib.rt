@@ -1,26 +1,27 @@
-// What a move of a network hands out, into the lent buffer.
+// What a move of a network hands out, onto a tray.
 #![tactic(auto)]
 
 ghost use Rattle.std.specs.Prelude.{◌≡◌, map};
-ghost use Rattle.records.specs.Wrote.{Room, Wrote};
+ghost use Rattle.records.specs.Tray.{HasRoom, Handed};
 ghost use Rattle.settings.specs.Settings.{controllers_of, listed};
 ghost use Rattle.handing.specs.Handing.{round_record, errand_record, requests, entering, going_down, down_notices, move_records, recovery, reset};
 ghost use Rattle.steps.specs.Steps.{online_phase};
 ghost use Rattle.handing.specs.Handing.{online_in};
 
-use records::{ControllerMode, EventStatus, Mode, Notice, PduMode, Record, TransceiverMode};
-use settings::{Network, Transceiver};
+use records::{ControllerMode, EventStatus, Mode, Notice, PduMode, Record, TransceiverMode, Tray};
+use settings::Network;
 use steps::{Ask, Move, Phase, Step};
 
-// A record for each controller of a network: a request, or its PDU mode.
-#[derive(Clone, Copy)]
+// A record for each controller of a network: a request, or its PDU mode. It and the next stay enums: a closure in their place would be told apart in
+// contracts by what holds of each definition that it meets, and each caller would answer for its own.
+#[derive(Clone, Copy, Debug, PartialEq, Eq)]
 pub enum Round {
     Request(ControllerMode),
     Pdu(PduMode),
 }
 
 // A record for the transceiver of a network.
-#[derive(Clone, Copy)]
+#[derive(Clone, Copy, Debug, PartialEq, Eq)]
 pub enum Errand {
     Mode(TransceiverMode),
     Clear,
@@ -39,20 +40,13 @@ fn round_record(round: Round, id: u8) -> Record
 }
 
 // S14: a record for each controller, in the order of the sheet.
-fn put_round(out: &mut [u8], k: usize, network: Network, round: Round) -> usize
-    requires { Room out.old k (map (round_record round) (controllers_of network)) }
-    ensures { Wrote out.old out.new k result (map (round_record round) (controllers_of network)) }
+fn put_round(tray: &mut Tray, network: Network, round: Round)
+    requires { HasRoom tray.old (map (round_record round) (controllers_of network)) }
+    ensures { Handed tray.old (map (round_record round) (controllers_of network)) tray.new }
 {
-    let ids = network.controllers;
-    let used = Network::in_use(network.count);
-    let mut next = k;
-    let mut i: u8 = 0;
-    while i < used {
-        let handed = round_record(round, ids[i as usize]);
-        next = records::put_record(out, next, handed);
-        i += 1;
+    for &id in lists::in_use(&network.controllers, network.count) {
+        tray.put(round_record(round, id));
     }
-    next
 }
 
 fn errand_record(errand: Errand, id: u8) -> Record
@@ -66,172 +60,126 @@ fn errand_record(errand: Errand, id: u8) -> Record
 }
 
 // A record for the transceiver, where there is one.
-fn put_errand(out: &mut [u8], k: usize, network: Network, errand: Errand) -> usize
-    requires { Room out.old k (map (errand_record errand) (listed network.transceiver)) }
-    ensures { Wrote out.old out.new k result (map (errand_record errand) (listed network.transceiver)) }
+#[tactic(auto, using(records::proofs::Trays::handed_none))]
+fn put_errand(tray: &mut Tray, network: Network, errand: Errand)
+    requires { HasRoom tray.old (map (errand_record errand) (listed network.transceiver)) }
+    ensures { Handed tray.old (map (errand_record errand) (listed network.transceiver)) tray.new }
 {
-    let transceiver = network.transceiver;
-    match transceiver {
-        Transceiver::Absent => k,
-        Transceiver::Present(id) => {
-            let handed = errand_record(errand, id);
-            records::put_record(out, k, handed)
-        }
+    if let Some(id) = network.transceiver {
+        tray.put(errand_record(errand, id));
     }
 }
 
 // ---- what a move hands out
 
 // N11: the requests of a step, by what it asks for.
-fn put_requests(out: &mut [u8], k: usize, network: Network, ask: Ask) -> usize
-    requires { Room out.old k (requests ask network) }
-    ensures { Wrote out.old out.new k result (requests ask network) }
+#[tactic(auto, using(records::proofs::Trays::handed_none), unfolding(crate::specs::Handing::requests))]
+fn put_requests(tray: &mut Tray, network: Network, ask: Ask)
+    requires { HasRoom tray.old (requests ask network) }
+    ensures { Handed tray.old (requests ask network) tray.new }
 {
     match ask {
-        Ask::Nothing => k,
-        Ask::Controllers(mode) => put_round(out, k, network, Round::Request(mode)),
-        Ask::Transceiver(mode) => put_errand(out, k, network, Errand::Mode(mode)),
-        Ask::ClearWake => put_errand(out, k, network, Errand::Clear),
-        Ask::CheckWake => put_errand(out, k, network, Errand::Check),
+        Ask::Nothing => {}
+        Ask::Controllers(mode) => put_round(tray, network, Round::Request(mode)),
+        Ask::Transceiver(mode) => put_errand(tray, network, Errand::Mode(mode)),
+        Ask::ClearWake => put_errand(tray, network, Errand::Clear),
+        Ask::CheckWake => put_errand(tray, network, Errand::Check),
     }
 }
 
 // T23, T24: entering full or silent: the PDU mode of each controller, and what is told.
-fn put_entering(
-    out: &mut [u8],
-    k: usize,
-    network: Network,
-    pdu: PduMode,
-    mode: Mode,
-    notice: Notice,
-) -> usize
-    requires { Room out.old k (entering network pdu mode notice) }
-    ensures { Wrote out.old out.new k result (entering network pdu mode notice) }
+#[tactic(auto, unfolding(crate::specs::Handing::entering))]
+fn put_entering(tray: &mut Tray, network: Network, pdu: PduMode, mode: Mode, notice: Notice)
+    requires { HasRoom tray.old (entering network pdu mode notice) }
+    ensures { Handed tray.old (entering network pdu mode notice) tray.new }
 {
-    let told = Record::tell(network.handle, mode);
-    let noted = Record::note(network.handle, notice);
-    let next = put_round(out, k, network, Round::Pdu(pdu));
-    let next = records::put_record(out, next, told);
-    records::put_record(out, next, noted)
+    put_round(tray, network, Round::Pdu(pdu));
+    tray.put(Record::tell(network.handle, mode));
+    tray.put(Record::note(network.handle, notice));
 }
 
 // T25: the notices of going down, which are 7 no and, where full was told, 6 silent.
-fn put_down_notices(out: &mut [u8], k: usize, handle: u8, told: Mode) -> usize
-    requires { Room out.old k (down_notices handle told) }
-    ensures { Wrote out.old out.new k result (down_notices handle told) }
+#[tactic(auto, unfolding(crate::specs::Handing::down_notices))]
+fn put_down_notices(tray: &mut Tray, handle: u8, told: Mode)
+    requires { HasRoom tray.old (down_notices handle told) }
+    ensures { Handed tray.old (down_notices handle told) tray.new }
 {
-    let noted = Record::note(handle, Notice::No);
-    let lowered = Record::tell(handle, Mode::Silent);
-    let next = records::put_record(out, k, noted);
-    match told {
-        Mode::No => next,
-        Mode::Silent => next,
-        Mode::Full => records::put_record(out, next, lowered),
+    tray.put(Record::note(handle, Notice::No));
+    if told == Mode::Full {
+        tray.put(Record::tell(handle, Mode::Silent));
     }
 }
 
 // T25: going down: the notices, and the requests of the first down step.
-fn put_down(out: &mut [u8], k: usize, network: Network, told: Mode) -> usize
-    requires { Room out.old k (going_down network told) }
-    ensures { Wrote out.old out.new k result (going_down network told) }
+#[tactic(auto, unfolding(crate::specs::Handing::going_down))]
+fn put_down(tray: &mut Tray, network: Network, told: Mode)
+    requires { HasRoom tray.old (going_down network told) }
+    ensures { Handed tray.old (going_down network told) tray.new }
 {
-    let first = steps::first_down(network.partial);
-    let ask = first.asks();
-    let next = put_down_notices(out, k, network.handle, told);
-    put_requests(out, next, network, ask)
+    put_down_notices(tray, network.handle, told);
+    put_requests(tray, network, steps::first_down(network.partial).asks());
 }
 
 // What a move hands out, of a network in a step with a mode told.
-pub fn put_move(
-    out: &mut [u8],
-    k: usize,
-    network: Network,
-    step: Step,
-    told: Mode,
-    to: Move,
-) -> usize
-    requires { Room out.old k (move_records network step told to) }
-    ensures { Wrote out.old out.new k result (move_records network step told to) }
+#[tactic(auto, using(records::proofs::Trays::handed_none), unfolding(crate::specs::Handing::move_records, crate::specs::Handing::entering_full, crate::specs::Handing::entering_silent))]
+pub fn put_move(tray: &mut Tray, network: Network, step: Step, told: Mode, to: Move)
+    requires { HasRoom tray.old (move_records network step told to) }
+    ensures { Handed tray.old (move_records network step told to) tray.new }
 {
     match to {
-        Move::Stay => k,
-        Move::AskAgain => {
-            let ask = step.asks();
-            put_requests(out, k, network, ask)
-        }
-        Move::Count(_) => k,
-        Move::EnterFull => put_entering(out, k, network, PduMode::Online, Mode::Full, Notice::Full),
+        Move::Stay | Move::Count(_) => {}
+        Move::AskAgain => put_requests(tray, network, step.asks()),
+        Move::EnterFull => put_entering(tray, network, PduMode::Online, Mode::Full, Notice::Full),
         Move::EnterSilent => put_entering(
-            out,
-            k,
+            tray,
             network,
             PduMode::TxOffline,
             Mode::Silent,
             Notice::Silent,
         ),
-        Move::Pass => {
-            let passed = Record::report(network.handle, EventStatus::Passed);
-            records::put_record(out, k, passed)
-        }
-        Move::Wait => put_round(out, k, network, Round::Pdu(PduMode::TxOffline)),
-        Move::GoDown => put_down(out, k, network, told),
-        Move::EnterNoCommunication => {
-            let nothing = Record::tell(network.handle, Mode::No);
-            records::put_record(out, k, nothing)
-        }
-        Move::Enter(next) => {
-            let ask = next.asks();
-            put_requests(out, k, network, ask)
-        }
+        Move::Pass => tray.put(Record::report(network.handle, EventStatus::Passed)),
+        Move::Wait => put_round(tray, network, Round::Pdu(PduMode::TxOffline)),
+        Move::GoDown => put_down(tray, network, told),
+        Move::EnterNoCommunication => tray.put(Record::tell(network.handle, Mode::No)),
+        Move::Enter(next) => put_requests(tray, network, next.asks()),
     }
 }
 
 // B3: the records of a recovery that begins.
-pub fn put_recovery(out: &mut [u8], handle: u8) -> usize
-    requires { Room out.old 0 (recovery handle) }
-    ensures { Wrote out.old out.new 0 result (recovery handle) }
+#[tactic(auto, unfolding(crate::specs::Handing::recovery))]
+pub fn put_recovery(tray: &mut Tray, handle: u8)
+    requires { HasRoom tray.old (recovery handle) }
+    ensures { Handed tray.old (recovery handle) tray.new }
 {
-    let prefailed = Record::report(handle, EventStatus::Prefailed);
-    let silent = Record::tell(handle, Mode::Silent);
-    let noted = Record::note(handle, Notice::BusOff);
-    let next = records::put_record(out, 0, prefailed);
-    let next = records::put_record(out, next, silent);
-    records::put_record(out, next, noted)
+    tray.put(Record::report(handle, EventStatus::Prefailed));
+    tray.put(Record::tell(handle, Mode::Silent));
+    tray.put(Record::note(handle, Notice::BusOff));
 }
 
 // X2: the record of a reset that begins.
-pub fn put_reset(out: &mut [u8], handle: u8) -> usize
-    requires { Room out.old 0 (reset handle) }
-    ensures { Wrote out.old out.new 0 result (reset handle) }
+#[tactic(auto, unfolding(crate::specs::Handing::reset))]
+pub fn put_reset(tray: &mut Tray, handle: u8)
+    requires { HasRoom tray.old (reset handle) }
+    ensures { Handed tray.old (reset handle) tray.new }
 {
     let told = Record::tell(handle, Mode::Silent);
-    records::put_record(out, 0, told)
+    tray.put(told);
 }
 
 // L3: steps 4, 5, 15 and 16.
 fn is_online(phase: Phase) -> bool
     ensures { result ≡ online_phase phase }
 {
-    match phase {
-        Phase::Off => false,
-        Phase::Rising => false,
-        Phase::Checking => true,
-        Phase::Full => true,
-        Phase::Recovering => false,
-        Phase::Silent => false,
-        Phase::Falling => false,
-        Phase::Resetting => true,
-    }
+    matches!(phase, Phase::Checking | Phase::Full | Phase::Resetting)
 }
 
 // L3: online for each controller, in these steps.
-pub fn put_online(out: &mut [u8], k: usize, network: Network, step: Step) -> usize
-    requires { Room out.old k (online_in network step) }
-    ensures { Wrote out.old out.new k result (online_in network step) }
+#[tactic(auto, using(records::proofs::Trays::handed_none), unfolding(crate::specs::Handing::online_in))]
+pub fn put_online(tray: &mut Tray, network: Network, step: Step)
+    requires { HasRoom tray.old (online_in network step) }
+    ensures { Handed tray.old (online_in network step) tray.new }
 {
-    let phase = step.phase();
-    if is_online(phase) {
-        return put_round(out, k, network, Round::Pdu(PduMode::Online));
+    if is_online(step.phase()) {
+        put_round(tray, network, Round::Pdu(PduMode::Online));
     }
-    k
 }

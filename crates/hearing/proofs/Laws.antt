@@ -1,22 +1,22 @@
 -- What a message does, by the network that it names: a message is refused and its record stays, or the record is stored in its slot.
-use Rattle.lists.proofs.Basics.{ℕ, ◌≡◌, refl, sym, ap, ◌∙◌, List, [], true, false, true≢false, length}
+use Rattle.std.specs.Prelude.{Ok, Err, Result}
+use Rattle.lists.proofs.Basics.{ℕ, ◌≡◌, refl, ap, List, [], false, true≢false, length}
 use Rattle.std.proofs.lemmas.List.{set-get_or}
 use Rattle.records.specs.declared.Record.{Record}
 use Rattle.settings.specs.declared.Network.{Network}
 use Rattle.network.specs.declared.Message.{Message}
 use Rattle.network.specs.declared.Part.{Part}
-use Rattle.network.specs.declared.Reply.{Reply}
+use Rattle.network.specs.declared.Refusal.{Refusal}
 use Rattle.network.specs.declared.Report.{Report}
 use Rattle.network.specs.declared.State.{State}
 use Rattle.network.specs.Replies.{is_taken}
-use Rattle.network.specs.Parts.{Sight, part_of, report_part, records_of, said, addressee}
+use Rattle.network.specs.Parts.{part_of, report_part, records_of, said, addressee}
 use Rattle.network_theorems.proofs.Parts.{by_request, by_answer, by_report}
-use Rattle.slots.specs.declared.Answer.{Answer}
+use Rattle.slots.specs.declared.CallRefusal.{CallRefusal}
 use Rattle.slots.specs.declared.Manager.{Manager}
 use Rattle.slots.specs.declared.Outcome.{Outcome}
-use Rattle.slots.specs.declared.Slot.{Slot}
-use Rattle.slots.specs.Manager.{network_at, state_at, with_state, blank_state, refused}
-use Rattle.slots.specs.Calls.{by_slot, slot_of, answer_of, call_of, outcome, named, slot_outcome, settled, Hears}
+use Rattle.slots.specs.Manager.{Answer, network_at, state_at, with_state, blank_state}
+use Rattle.slots.specs.Calls.{slot_of, answer_of, call_of, outcome, named, slot_outcome, settled, Hears}
 use Rattle.hearing.specs.Heard.{HeardAt}
 
 -- a part that is refused leaves the record as it was
@@ -58,26 +58,25 @@ by_name m (Message.CheckDone transceiver) = refl
 abbrev answered : Answer → Manager → Outcome
 answered answer m = record { answer = answer; manager = m; count = 0; mode = 0; place = 0 }
 
-stored : (m : Manager) (i : ℕ) (reply : Reply) (s : State) (rs : List Record) → rs ≡ [] → (is_taken reply ≡ false → s ≡ state_at m i) →
+stored : (m : Manager) (i : ℕ) (reply : Result Unit Refusal) (s : State) (rs : List Record) → rs ≡ [] → (is_taken reply ≡ false → s ≡ state_at m i) →
     answered (answer_of reply) (with_state m i s) ≡ settled m i reply s (length rs)
 unfolding settled
-stored m i Reply.Taken s rs none stays = rw none refl
-stored m i (Reply.Refused refusal) s rs none stays =
+stored m i (Ok tt) s rs none stays = rw none refl
+stored m i (Err refusal) s rs none stays =
     rw (stays refl)
-    (ap (λ (states : List State). answered (answer_of (Reply.Refused refusal)) (record {
+    (ap (λ (states : List State). answered (answer_of (Err refusal)) (record {
       stage = m.stage;
       listening = m.listening;
-      count = m.count;
-      networks = m.networks;
+      settings = m.settings;
       states = states;
     })) (set-get_or m.states i blank_state))
 
 module _ (m : Manager) (message : Message) where
-  pub unknown_hears : (answer : Answer) → slot_of m (addressee message) ≡ Slot.Refused answer → Hears m message answer m
+  pub unknown_hears : (refusal : CallRefusal) → slot_of m (addressee message) ≡ Err refusal → Hears m message (Err refusal) m
   unfolding named
-  unknown_hears answer e = rw (by_name m message, e) refl
+  unknown_hears refusal e = rw (by_name m message, e) refl
 
-  pub found_hears : (i : ℕ) → slot_of m (addressee message) ≡ Slot.At i → (reply : Reply) (after : Manager) → HeardAt m i message reply after →
+  pub found_hears : (i : ℕ) → slot_of m (addressee message) ≡ Ok i → (reply : Result Unit Refusal) (after : Manager) → HeardAt m i message reply after →
       (answer : Answer) → answer ≡ answer_of reply → Hears m message answer after
   unfolding named slot_outcome
   found_hears i e reply after h answer a =

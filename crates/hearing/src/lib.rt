@@ -8,12 +8,12 @@ ghost use Rattle.hearing.specs.Heard.{HeardIn, HeardAt};
 
 use finding::slot_in;
 pub use network::Message;
-use network::{Reply, State, part_of};
+use network::{Refusal, State, part_of};
 use settings::Network;
-use slots::{Answer, Manager, Outcome, Slot};
+use slots::{Answer, CallRefusal, Manager, Outcome};
 
 // R2, N16: the record of a network after a message, where it stands: a refusal leaves it as it was.
-fn hear_in(state: &mut State, network: Network, message: Message) -> Reply
+fn hear_in(state: &mut State, network: Network, message: Message) -> Result<(), Refusal>
     ensures { HeardIn network state.old message result state.new }
 {
     let part = part_of(network, *state, message);
@@ -22,21 +22,21 @@ fn hear_in(state: &mut State, network: Network, message: Message) -> Reply
 }
 
 // The record of this slot is lent on.
-fn hear_at(manager: &mut Manager, at: usize, message: Message) -> Reply
+fn hear_at(manager: &mut Manager, at: usize, message: Message) -> Result<(), Refusal>
     requires { at < 8 }
     ensures { HeardAt manager.old at message result manager.new }
 {
-    let network = manager.networks[at];
+    let network = manager.settings.networks[at];
     hear_in(&mut manager.states[at], network, message)
 }
 
-// The manager's answer for a network's reply.
-fn answer_of(reply: Reply) -> Answer
+// The manager's answer for a network's reply. Stays a match: by `map_err` it stayed open in `hear` that a refusal is given as the manager's.
+fn answer_of(reply: Result<(), Refusal>) -> Answer
     ensures { result ≡ answer_of reply }
 {
     match reply {
-        Reply::Taken => Answer::Accepted,
-        Reply::Refused(refusal) => Answer::Network(refusal),
+        Ok(()) => Ok(()),
+        Err(refusal) => Err(CallRefusal::Network(refusal)),
     }
 }
 
@@ -44,13 +44,11 @@ fn answer_of(reply: Reply) -> Answer
 pub fn hear(manager: &mut Manager, message: Message) -> Answer
     ensures { Hears manager.old message result manager.new }
 {
-    match slot_in(manager, message.names()) {
-        Slot::Refused(answer) => answer,
-        Slot::At(at) => answer_of(hear_at(manager, at, message)),
-    }
+    let at = slot_in(manager, message.names())?;
+    answer_of(hear_at(manager, at, message))
 }
 
-// The same for callers that have the manager by value.
+// The same for callers that have the manager by value. Stays: it is public, and has a promise of its own.
 pub fn heard(manager: Manager, message: Message) -> Outcome
     ensures { result ≡ outcome manager (call_of message) }
 {
@@ -58,9 +56,6 @@ pub fn heard(manager: Manager, message: Message) -> Outcome
     let answer = hear(&mut lent, message);
     Outcome {
         answer,
-        manager: lent,
-        count: 0,
-        mode: 0,
-        place: 0,
+        ..Outcome::accept(lent)
     }
 }

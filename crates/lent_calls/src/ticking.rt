@@ -5,8 +5,8 @@ ghost use Rattle.network.specs.Moving.{tick_records};
 ghost use Rattle.slots.specs.Manager.{networks_of, tick_needs, gathered};
 ghost use Rattle.slots.specs.Calls as calls;
 
-use settings::Settings;
-use slots::{Answer, Gate, Manager, Outcome, Stage, gate_of, tick_needs};
+use records::Tray;
+use slots::{Manager, Outcome, Stage, gate_of, tick_needs};
 
 // T1, H2: every network ticks, in the order of the sheet. One that rests stays as it is.
 fn tick_networks(manager: Manager, out: &mut [u8]) -> Outcome
@@ -14,36 +14,24 @@ fn tick_networks(manager: Manager, out: &mut [u8]) -> Outcome
     ensures { (result ≡ calls.all_ticked manager)
         × (out.new ≡ calls.buffer_with out.old (gathered tick_records (networks_of manager) manager.states)) }
 {
-    let listening = manager.listening;
-    let count = manager.count;
-    let networks = manager.networks;
     let mut states = manager.states;
-    let mut next: usize = 0;
-    let used = Settings::in_use(count);
-    let mut i: u8 = 0;
-    while i < used {
-        let state = states[i as usize];
+    let mut tray = Tray { out, count: 0 };
+    for (i, network) in lists::in_use(&manager.settings.networks, manager.settings.count)
+        .iter()
+        .enumerate()
+    {
+        let state = states[i];
         if !network_ticks::rests(state) {
-            let network = networks[i as usize];
-            let ticked = network_ticks::tick(network, state, out, next);
-            let after = ticked.state;
-            states[i as usize] = after;
-            next = ticked.next;
+            states[i] = network_ticks::tick(*network, state, &mut tray);
         }
-        i += 1;
     }
     Outcome {
-        answer: Answer::Accepted,
-        manager: Manager {
+        count: tray.count,
+        ..Outcome::accept(Manager {
             stage: Stage::Started,
-            listening,
-            count,
-            networks,
             states,
-        },
-        count: next,
-        mode: 0,
-        place: 0,
+            ..manager
+        })
     }
 }
 
@@ -64,7 +52,7 @@ pub fn tick(manager: Manager, out: &mut [u8]) -> Outcome
     ensures { calls.Gives manager (calls.tick (length out.old)) out.old result out.new }
 {
     match gate_of(manager, out.len(), tick_needs(manager)) {
-        Gate::Refused(answer) => Outcome::refuse(manager, answer),
-        Gate::Open => tick_started(manager, out),
+        Err(refusal) => Outcome::refuse(manager, refusal),
+        Ok(()) => tick_started(manager, out),
     }
 }

@@ -1,7 +1,8 @@
 -- What a call to listen hands out: room for it, and the ways out of the call.
-use Rattle.lists.proofs.Basics.{ℕ, ◌*◌, ◌≤◌, ◌<◌, min, arith, ◌≡◌, refl, sym, ap, ◌∙◌, List, [], map, Bool, true, false, length, take}
+use Rattle.std.specs.Prelude.{Ok}
+use mathlib.Core.Bool.{beq, not}
+use Rattle.lists.proofs.Basics.{ℕ, ◌*◌, ◌≤◌, ◌<◌, arith, ◌≡◌, refl, sym, ap, ◌∙◌, List, [], map, Bool, true, false, length}
 use Rattle.lists.proofs.Basics.{length-map, lt-ltb, le-ltb, eqb}
-use Rattle.lists.proofs.Parts.{take_min}
 use Rattle.lists.proofs.Tests.{split}
 use Rattle.records.specs.declared.Record.{Record}
 use Rattle.records.specs.Records.{turned, bytes}
@@ -16,9 +17,8 @@ use Rattle.handing.specs.Handing.{round_record, online, online_in}
 use Rattle.network.specs.declared.State.{State}
 use Rattle.slots.specs.declared.Manager.{Manager}
 use Rattle.slots.specs.declared.Outcome.{Outcome}
-use Rattle.slots.specs.declared.Answer.{Answer}
-use Rattle.slots.specs.Manager.{networks_of, with_listening, refused, accepted, gathered, controller_count, listen_needs}
-use Rattle.slots.specs.declared.Gate.{Gate}
+use Rattle.slots.specs.declared.CallRefusal.{CallRefusal}
+use Rattle.slots.specs.Manager.{Answer, networks_of, with_listening, refused, accepted, gathered, controller_count, listen_needs}
 use Rattle.slots.specs.Calls.{Call, by_gate, gate_records, changes, all_online, online_anew, listened, by_value, outcome, by_rules, buffer_with, Gives}
 use Rattle.lent_calls.proofs.Gathered.{gathered_summed}
 use Rattle.lent_calls.proofs.Ticks.{wrote_front, heeded_with, gate_open}
@@ -48,10 +48,21 @@ anew_fits m listening =
     split (λ (rs : List Record). 3 * length rs ≤ listen_needs m) (changes m.listening listening) (λ _. all_fits m) (λ _. omega arith)
 
 -- the loop over the networks is over
-pub online_end : (m : Manager) {b b₁ : List ℕ} {k : ℕ} (i : ℕ) → i ≡ min m.count (length m.networks)
-    → Wrote b b₁ 0 k (gathered online_of (take i m.networks) m.states) → Wrote b b₁ 0 k (all_online m)
+pub online_end : (m : Manager) {b b₁ : List ℕ} {k : ℕ} (ns : List Network) → ns ≡ networks_of m → Wrote b b₁ 0 k (gathered online_of ns m.states)
+    → Wrote b b₁ 0 k (all_online m)
 unfolding all_online
-online_end m i e w = rw (take_min m.networks m.count i e) at w
+online_end m ns e w = rw e at w
+
+-- in the buffer that the tray held, once the tray is over
+pub online_ended_in : {b last after : List ℕ} {k : ℕ} {rs : List Record} → Wrote b last 0 k rs → after ≡ last → Wrote b after 0 k rs
+online_ended_in w e = record { count = w.count; buffer = e ∙ w.buffer }
+
+-- it changes where before and after are not the same
+pub changed : (before after : Bool) → not (beq before after) ≡ changes before after
+changed true true = refl
+changed true false = refl
+changed false true = refl
+changed false false = refl
 
 -- it changes: online is written and goes out as it does from now on
 pub listened_anew : (m : Manager) (listening : Bool) {b b₁ b₂ : List ℕ} {k : ℕ} (x : Bool) → x ≡ changes m.listening listening → x ≡ true
@@ -79,8 +90,8 @@ listened_same m listening b r x p f e =
 
 -- ---- the value
 -- a value above 1 is refused
-pub value_refused : (m : Manager) (value : ℕ) (b : List ℕ) (r : Outcome) → 1 < value → r ≡ refused m Answer.OutOfRange
-    → (r ≡ by_value value (refused m Answer.OutOfRange) (listened m))
+pub value_refused : (m : Manager) (value : ℕ) (b : List ℕ) (r : Outcome) → 1 < value → r ≡ refused m CallRefusal.OutOfRange
+    → (r ≡ by_value value (refused m CallRefusal.OutOfRange) (listened m))
     × (b ≡ buffer_with b (map (turned r.manager.listening) (by_value value [] (online_anew m))))
 unfolding buffer_with bytes
 value_refused m value b r l e = (rw (lt-ltb 1 value l) e, rw (lt-ltb 1 value l) refl)
@@ -88,7 +99,7 @@ value_refused m value b r l e = (rw (lt-ltb 1 value l) e, rw (lt-ltb 1 value l) 
 -- any other sets it or clears it
 pub value_taken : (m : Manager) (value : ℕ) (b after : List ℕ) (r : Outcome) → value ≤ 1
     → (r ≡ listened m (eqb 1 value)) × (after ≡ buffer_with b (map (turned (eqb 1 value)) (online_anew m (eqb 1 value))))
-    → (r ≡ by_value value (refused m Answer.OutOfRange) (listened m))
+    → (r ≡ by_value value (refused m CallRefusal.OutOfRange) (listened m))
     × (after ≡ buffer_with b (map (turned r.manager.listening) (by_value value [] (online_anew m))))
 unfolding listened
 value_taken m value b after r l p =
@@ -97,7 +108,7 @@ value_taken m value b after r l p =
 
 -- ---- the call
 -- it goes on: what its value gives is what it gives
-pub listen_open : (m : Manager) (c : Call) (b after : List ℕ) (o r : Outcome) (rs : List Record) (gate x : Gate) → x ≡ gate → x ≡ Gate.Open
+pub listen_open : (m : Manager) (c : Call) (b after : List ℕ) (o r : Outcome) (rs : List Record) (gate x : Answer) → x ≡ gate → x ≡ Ok tt
     → (r ≡ o) × (after ≡ buffer_with b (map (turned r.manager.listening) rs)) → outcome m c ≡ by_gate m gate o → by_rules m c ≡ gate_records gate rs
     → Gives m c b r after
 listen_open m c b after o r rs gate x p e g =

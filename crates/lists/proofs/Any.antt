@@ -1,7 +1,10 @@
 -- What a search through the first n elements of a list learns, once for every test and every type.
 use Rattle.lists.proofs.Basics.{ℕ, zero, suc, ◌+◌, ◌<◌, min, arith, add-one, sym, ap, ◌∙◌, List, ◌∷◌, ◌++◌, map, Bool, true, false, cond, not}
-use Rattle.lists.proofs.Basics.{◌||◌, ◌&&◌, false≢true, true≢false, length, get_or, take, ◌≡◌, refl, []}
+use Rattle.lists.proofs.Basics.{◌||◌, ◌&&◌, false≢true, true≢false, length, get_or, take, take_all, ◌≤◌, ◌≡◌, refl, []}
 use Rattle.lists.proofs.Parts.{take_min}
+use Rattle.std.specs.List.{list_any, list_all, position_from}
+use Rattle.std.proofs.lemmas.Iterator.Adapters.{position_from-zero}
+use Rattle.std.specs.Prelude.{Some, None, position}
 use Rattle.lists.specs.Lists.{any, every, lastly, first}
 
 or_left : (a b : Bool) → a || b ≡ false → a ≡ false
@@ -88,7 +91,7 @@ module _ {A : Type 0} (p : A → Bool) where
   -- where some element passes, the first that does is one of the list
   pub first_below : (l : List A) → any p l ≡ true → first p l < length l
   unfolding any first
-  first_below [] e = absurd (let z : ◌≡◌ {A = ℕ} 0 1 = cc in omega arith)
+  first_below [] e = absurd cc
   first_below (x ∷ l) e = by_test (p x) e (first_below l)
     where
       by_test : (b : Bool) → b || any p l ≡ true → (any p l ≡ true → first p l < length l) → cond b 0 (suc (first p l)) < length (x ∷ l)
@@ -182,3 +185,45 @@ every_at {A} p l i n d e h k = by_test (p (get_or l i d)) refl
     by_test : (b : Bool) → p (get_or l i d) ≡ b → b ≡ true
     by_test true q = refl
     by_test false q = absurd (false≢true (sym (every_false p (take n l) (any_found (λ (x : A). not (p x)) l i n d h k (ap not q))) ∙ e))
+
+-- what a search through a whole list has found, none having passed before
+pub found_at : {A : Type 0} (p : A → Bool) (l : List A) (i : ℕ) (d : A) →
+    any p (take i l) ≡ false → i < length l → p (get_or l i d) ≡ true → cond (any p l) (Some (first p l)) None ≡ Some i
+found_at p l i d e h f =
+    let whole : take (length l) l ≡ l = take_all (length l) l (omega arith) in
+    let some : any p l ≡ true = ap (any p) (sym whole) ∙ any_found p l i (length l) d h h f in
+    let at : first p l ≡ i = ap (first p) (sym whole) ∙ first_found p l i (length l) d e h h f in
+    rw (some, at) refl
+
+-- and that none has passed, at its end
+pub none_found : {A : Type 0} (p : A → Bool) (l : List A) (i : ℕ) → any p (take i l) ≡ false → length l ≤ i → cond (any p l) (Some (first p l)) None ≡ None
+none_found p l i e h = let none : any p l ≡ false = ap (any p) (sym (take_all i l h)) ∙ e in rw none refl
+
+-- ---- the library's words for the same
+pub any-list : {A : Type 0} (p : A → Bool) (l : List A) → any p l ≡ list_any p l
+unfolding any
+any-list p [] = refl
+any-list p (x ∷ l) = rw (any-list p l) refl
+
+not_any_not : {A : Type 0} (p : A → Bool) (l : List A) → not (list_any (λ (x : A). not (p x)) l) ≡ list_all p l
+not_any_not p [] = refl
+not_any_not p (x ∷ l) = not_not_or (p x) _ ∙ rw (not_any_not p l) refl
+
+pub every-list : {A : Type 0} (p : A → Bool) (l : List A) → every p l ≡ list_all p l
+unfolding every
+every-list {A} p l = rw (any-list (λ (x : A). not (p x)) l) (not_any_not p l)
+
+-- the place of the first that passes, counted from a number on
+first_from : {A : Type 0} (p : A → Bool) (i : ℕ) (l : List A) → cond (any p l) (Some (first p l + i)) None ≡ position_from p i l
+unfolding any first
+first_from p i [] = refl
+first_from p i (x ∷ l) = by_test (p x) (first_from p (i + 1) l)
+  where
+    by_test : (b : Bool) → cond (any p l) (Some (first p l + (i + 1))) None ≡ position_from p (i + 1) l →
+        cond (b || any p l) (Some (cond b 0 (suc (first p l)) + i)) None ≡ cond b (Some i) (position_from p (i + 1) l)
+    by_test true e = ap Some (omega arith)
+    by_test false e = ap (λ (n : ℕ). cond (any p l) (Some n) None) (omega arith) ∙ e
+
+-- where the first that passes stands is where the library says that it does
+pub first-position : {A : Type 0} (p : A → Bool) (l : List A) → cond (any p l) (Some (first p l)) None ≡ position p l
+first-position p l = ap (λ (n : ℕ). cond (any p l) (Some n) None) (omega arith) ∙ (first_from p 0 l ∙ sym (position_from-zero p l))

@@ -5,4 +5,4 @@ pub use lent_calls::{bus_off, stall, tick};
 pub use listen_calls::listen;
 pub use quiet_calls::{check_done, clear_done, controller_answer, poll, request, transceiver_mode};
 pub use setting_up::{new, read, start, write};
-pub use slots::{Answer, Manager, Outcome, Stage};
+pub use slots::{Answer, CallRefusal, Manager, Outcome, Stage};

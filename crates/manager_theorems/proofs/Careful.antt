@@ -1,6 +1,8 @@
 -- R2, R3, N16, L4: a refused call changes no record and no lent byte, a call that names an id changes the record of one network at most, and a call to
 -- listen that of none.
-use Rattle.lists.proofs.Basics.{ℕ, arith, ◌≡◌, refl, sym, ap, ◌∙◌, List, map, Bool, true, false, true≢false, cond, leb, ltb, eqb, length, get_or-set_other}
+use Rattle.lists.proofs.Basics.{ℕ, ◌≡◌, refl, sym, ap, ◌∙◌, List, map, Bool, true, false, true≢false, cond, leb, ltb, eqb, length, get_or-set_other}
+use Rattle.std.specs.Prelude.{Ok, Err}
+use Rattle.slots.specs.declared.CallRefusal.{CallRefusal}
 use Rattle.records.specs.declared.Record.{Record}
 use Rattle.records.specs.Records.{turned, bytes}
 use Rattle.settings.specs.declared.Id.{Id}
@@ -8,16 +10,13 @@ use Rattle.sheet.specs.Encode.{encode}
 use Rattle.sheet.specs.Writing.{buffer_after}
 use Rattle.network.specs.Parts.{Sight}
 use Rattle.slots.specs.declared.Stage.{Stage}
-use Rattle.slots.specs.declared.Slot.{Slot}
-use Rattle.slots.specs.declared.Answer.{Answer}
 use Rattle.slots.specs.declared.Manager.{Manager}
 use Rattle.slots.specs.declared.Outcome.{Outcome}
-use Rattle.slots.specs.Manager.{answer_number, settings_of, blank_state, refused}
+use Rattle.slots.specs.Manager.{Answer, answer_number, settings_of, blank_state, refused}
 use Rattle.slots.specs.Calls.{Call, listen, by_stage, slot_of, writing_of, gate_of, by_gate, all_ticked, listened, by_value, outcome, by_rules, handed_out}
 use Rattle.slots.specs.Calls.{buffer_with, written_into, Gives, Writes}
 use Rattle.calls.specs.Histories.{is_accepted, entry_of, to, address_of}
-use Rattle.calls.proofs.ByCall.{ByCall, by_call}
-use Rattle.slots.specs.declared.Gate.{Gate}
+use Rattle.calls.proofs.ByCall.{by_call}
 use Rattle.slots.specs.Manager.{listen_needs}
 use Rattle.manager_theorems.specs.Careful.{Careful, LeavesOthers, OnlyListens}
 
@@ -65,7 +64,7 @@ module _ (m : Manager) where
       by_room true f e = absurd (true≢false (rw f at e))
       by_room false f e = rw f refl
 
-      by_stage_lem : (g : Stage) → is_accepted (by_stage g (refused m Answer.NotReady) (writing_of m (length b)) (writing_of m (length b))).answer ≡ false
+      by_stage_lem : (g : Stage) → is_accepted (by_stage g (refused m CallRefusal.NotReady) (writing_of m (length b)) (writing_of m (length b))).answer ≡ false
           → by_stage g b (buffer_after (settings_of m) b) (buffer_after (settings_of m) b) ≡ b
       by_stage_lem Stage.Empty e = refl
       by_stage_lem Stage.Loaded e = by_room _ refl e
@@ -87,28 +86,28 @@ module _ (m : Manager) where
       count = refl;
       others = λ j apart. get_or-set_other m.states i j _ blank_state (λ same. apart (stored c id sight id' sight' i j n e f.slot same));
     };
-    ticks = λ room s k id sight e. absurd (let z : ◌≡◌ {A = ℕ} 0 1 = cc in omega arith);
-    listens = λ value room s k a id sight e. absurd (let z : ◌≡◌ {A = ℕ} 0 1 = cc in omega arith);
-    polls = λ handle i f id sight e. absurd (let z : ◌≡◌ {A = ℕ} 0 1 = cc in omega arith);
-    reads = λ bytes f a id sight e. absurd (let z : ◌≡◌ {A = ℕ} 0 1 = cc in omega arith);
-    misreads = λ bytes fault f id sight e. absurd (let z : ◌≡◌ {A = ℕ} 0 1 = cc in omega arith);
-    writes = λ room f id sight e. absurd (let z : ◌≡◌ {A = ℕ} 0 1 = cc in omega arith);
-    starts = λ s id sight e. absurd (let z : ◌≡◌ {A = ℕ} 0 1 = cc in omega arith);
+    ticks = λ room s k id sight e. absurd cc;
+    listens = λ value room s k a id sight e. absurd cc;
+    polls = λ handle i f id sight e. absurd cc;
+    reads = λ bytes f a id sight e. absurd cc;
+    misreads = λ bytes fault f id sight e. absurd cc;
+    writes = λ room f id sight e. absurd cc;
+    starts = λ s id sight e. absurd cc;
   })
     where
       stored : (c : Call) (id : Id) (sight : Sight) (id' : Id) (sight' : Sight) (i j : ℕ) →
-          address_of 0 c ≡ to id sight → address_of 0 c ≡ to id' sight' → slot_of m id ≡ Slot.At i → j ≡ i → slot_of m id' ≡ Slot.At j
-      stored c id sight id' sight' i j p q s same = let z : id ≡ id' = cc in ap (slot_of m) (sym z) ∙ s ∙ ap Slot.At (sym same)
+          address_of 0 c ≡ to id sight → address_of 0 c ≡ to id' sight' → slot_of m id ≡ Ok i → j ≡ i → slot_of m id' ≡ Ok j
+      stored c id sight id' sight' i j p q s same = let z : id ≡ id' = cc in ap (slot_of m) (sym z) ∙ s ∙ ap Ok (sym same)
 
   -- a call to listen changes no network's record, whatever it is answered
   pub only_listens : (value room : ℕ) → OnlyListens m (outcome m (listen value room))
   unfolding outcome listened
   only_listens value room = by_gate_lem (gate_of m room (listen_needs m))
     where
-      by_value_lem : (above : Bool) → OnlyListens m (cond above (refused m Answer.OutOfRange) (listened m (eqb 1 value)))
+      by_value_lem : (above : Bool) → OnlyListens m (cond above (refused m CallRefusal.OutOfRange) (listened m (eqb 1 value)))
       by_value_lem true = record { stage = refl; settings = refl; states = refl }
       by_value_lem false = record { stage = refl; settings = refl; states = refl }
 
-      by_gate_lem : (gate : Gate) → OnlyListens m (by_gate m gate (by_value value (refused m Answer.OutOfRange) (listened m)))
-      by_gate_lem (Gate.Refused answer) = record { stage = refl; settings = refl; states = refl }
-      by_gate_lem Gate.Open = by_value_lem (ltb 1 value)
+      by_gate_lem : (gate : Answer) → OnlyListens m (by_gate m gate (by_value value (refused m CallRefusal.OutOfRange) (listened m)))
+      by_gate_lem (Err answer) = record { stage = refl; settings = refl; states = refl }
+      by_gate_lem (Ok done) = by_value_lem (ltb 1 value)

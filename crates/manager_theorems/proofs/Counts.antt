@@ -38,7 +38,7 @@ shares_most (n ∷ ns) g = omega (arith, few_controllers n g.0, shares_most ns g
 -- eight networks of four controllers: 48 records
 pub tick_needs_most : (m : Manager) → Sound m → tick_needs m ≤ 144
 unfolding tick_needs
-tick_needs_most m s = omega (arith, shares_most (networks_of m) s.in_range, length-take m.count m.networks, s.networks)
+tick_needs_most m s = omega (arith, shares_most (networks_of m) s.in_range, length-take m.settings.count m.settings.networks, s.networks)
 
 controllers_most : (ns : List Network) → EachInRange ns → summed controller_count ns ≤ 4 * length ns
 unfolding EachInRange summed
@@ -48,4 +48,4 @@ controllers_most (n ∷ ns) g = omega (arith, few_controllers n g.0, controllers
 -- and 32 controllers
 pub listen_needs_most : (m : Manager) → Sound m → listen_needs m ≤ 96
 unfolding listen_needs
-listen_needs_most m s = omega (arith, controllers_most (networks_of m) s.in_range, length-take m.count m.networks, s.networks)
+listen_needs_most m s = omega (arith, controllers_most (networks_of m) s.in_range, length-take m.settings.count m.settings.networks, s.networks)

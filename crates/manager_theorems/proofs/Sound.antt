@@ -1,11 +1,11 @@
 -- What holds of a manager from `new` on, and that a tick changes each network by its own rules only.
+use Rattle.std.specs.Prelude.{Ok}
 use Rattle.lists.proofs.Basics.{ℕ, zero, suc, ◌<◌, ◌≤◌, arith, eqb-true, eqb-false, ◌≡◌, refl, sym, subst, ◌∙◌, List, [], ◌∷◌, Bool, true, false}
 use Rattle.lists.proofs.Basics.{eqb, ltb, length, get_or, set, length-set, get_or-set_same, get_or-set_other}
 use Rattle.lists.proofs.Parts.{padded_length}
 use Rattle.settings.specs.declared.Network.{Network}
 use Rattle.settings.specs.Settings.{blank_network}
 use Rattle.settings.specs.Good.{InRange, EachInRange}
-use Rattle.sheet.specs.declared.Verdict.{Verdict}
 use Rattle.sheet.specs.Reading.{decode}
 use Rattle.sheet.proofs.Theorems.{accepted_good}
 use Rattle.lists.specs.Lists.{Bytes}
@@ -17,13 +17,12 @@ use Rattle.network_theorems.proofs.Kept.{start_kept, tick_kept}
 use Rattle.network_theorems.proofs.Parts.{part_kept}
 use Rattle.slots.specs.declared.Stage.{Stage}
 use Rattle.slots.specs.declared.Manager.{Manager}
-use Rattle.slots.specs.declared.Outcome.{Outcome}
 use Rattle.slots.specs.Manager.{networks_of, settings_of, blank_state, network_at, state_at, with_state, with_states, with_listening, each, tick_needs}
 use Rattle.slots.specs.Calls.{Call, tick, new_manager, after_reading, gate_of, all_ticked, listened, outcome}
 use Rattle.slots.proofs.Each.{length_each}
 use Rattle.slots.proofs.Own.{slot_network, slot_state, each_slot, ticked_own}
 use Rattle.calls.specs.Histories.{ReadsBytes, Reached, at_new, after}
-use Rattle.calls.proofs.ByCall.{ByCall, by_call}
+use Rattle.calls.proofs.ByCall.{by_call}
 use Rattle.manager_theorems.specs.Careful.{Sound}
 
 -- ---- each network by its own rules
@@ -65,7 +64,7 @@ new_sound = record {
   states = refl;
   in_range = tt;
   good = λ f. absurd (f refl);
-  kept = λ e. absurd (let z : ◌≡◌ {A = ℕ} 0 1 = cc in omega arith);
+  kept = λ e. absurd cc;
 }
 
 module _ (m : Manager) (s : Sound m) where
@@ -101,7 +100,7 @@ module _ (m : Manager) (s : Sound m) where
   }
 
   read_sound : (bytes : List ℕ) →
-      Bytes bytes → (decode bytes).answer ≡ Verdict.Accepted → Sound (after_reading m (decode bytes) Verdict.Accepted).manager
+      Bytes bytes → (decode bytes).answer ≡ Ok tt → Sound (after_reading m (decode bytes) (Ok tt)).manager
   read_sound bytes w e =
       let g = accepted_good bytes w e in
       record {
@@ -110,7 +109,7 @@ module _ (m : Manager) (s : Sound m) where
         states = refl;
         in_range = g.in_range;
         good = λ _. g;
-        kept = λ f. absurd (let z : ◌≡◌ {A = ℕ} 0 1 = cc in omega arith);
+        kept = λ f. absurd cc;
       }
 
   -- whether the manager listens is no part of it
@@ -126,14 +125,14 @@ module _ (m : Manager) (s : Sound m) where
     declines = λ c id sight i a n f d r w. s;
     takes = λ c id sight i n f t k w. stored_sound i _ f.used
         (part_kept (network_at m i) (state_at m i) (slot_in_range m s i f.used) (s.kept f.started i f.used) sight);
-    ticks = λ room e k w. each_sound tick_state m.listening (λ f. let z : ◌≡◌ {A = ℕ} 0 1 = cc in omega arith)
+    ticks = λ room e k w. each_sound tick_state m.listening (λ f. cc)
         (λ i h. tick_kept (network_at m i) (state_at m i) (s.kept e i h));
     listens = λ value room e k a w. listening_sound (eqb 1 value);
     polls = λ handle i f w. s;
     reads = λ bytes f e w. read_sound bytes (w bytes refl f) e;
     misreads = λ bytes fault f w. s;
     writes = λ room f w. s;
-    starts = λ e w. each_sound (λ n t. started n) false (λ f. let z : ◌≡◌ {A = ℕ} 0 1 = cc in omega arith) (λ i h. start_kept (network_at m i));
+    starts = λ e w. each_sound (λ n t. started n) false (λ f. cc) (λ i h. start_kept (network_at m i));
   })
 
   -- once started, a manager stays so and keeps its settings
@@ -150,7 +149,7 @@ module _ (m : Manager) (s : Sound m) where
     reads = λ bytes f a. absurd (f e);
     misreads = λ bytes fault f. (e, refl);
     writes = λ room f. (e, refl);
-    starts = λ g. absurd (let z : ◌≡◌ {A = ℕ} 0 1 = cc in omega arith);
+    starts = λ g. absurd cc;
   })
 
 -- after any sequence of calls

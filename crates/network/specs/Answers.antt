@@ -8,10 +8,8 @@ use Rattle.settings.specs.Settings.{controllers_of, member}
 use Rattle.steps.specs.declared.Ask.{Ask}
 use Rattle.steps.specs.Steps.{asks_for}
 use Rattle.network.specs.declared.LastAnswer.{LastAnswer}
-use Rattle.network.specs.declared.Heard.{Heard}
 use Rattle.network.specs.declared.Report.{Report}
 use Rattle.network.specs.declared.State.{State}
-use Rattle.network.specs.State.{heard}
 
 -- A2 to A5: a step awaits what it asks for: of controllers and transceiver that very mode, of the wake flag that it was cleared or was checked
 abbrev pub awaits : Ask → Report → Bool
@@ -42,7 +40,7 @@ abbrev pub answer_of : Bool → LastAnswer
 answer_of ok = cond ok LastAnswer.Okay LastAnswer.Refused
 
 -- the answers with one of them new
-abbrev pub with_answers : State → List Heard → State
+abbrev pub with_answers : State → List LastAnswer → State
 with_answers s answers =
     record { step = s.step; wanted = s.wanted; told = s.told; count = s.count; asked = s.asked; answers = answers; reported = s.reported }
 
@@ -50,7 +48,7 @@ with_answers s answers =
 unfoldable pub after_answer : Network → State → ℕ → Bool → State
 after_answer n s id ok =
     cond (member id (controllers_of n))
-    (with_answers s (set s.answers (first (λ (x : ℕ). eqb x id) (controllers_of n)) (heard (answer_of ok))))
+    (with_answers s (set s.answers (first (λ (x : ℕ). eqb x id) (controllers_of n)) (answer_of ok)))
     s
 
 -- N3: the report of transceiver, clearing or checking has come

@@ -1,6 +1,6 @@
 -- What one network makes of a call: its reply, its record after the call, and the records that it hands out. The manager's outcome of a call that
 -- names an id is this part of the network that has it. The rules R2, R13, R15, N14, B6, X5, A1 and A3 to A6 of docs/RULES.md.
-use Rattle.std.specs.Prelude.{ℕ, List, [], Bool, false, cond, eqb, ltb}
+use Rattle.std.specs.Prelude.{ℕ, List, [], Bool, false, cond, eqb, ltb, Option, None, Some, Result, Ok, Err}
 use Rattle.records.specs.declared.Mode.{Mode}
 use Rattle.records.specs.declared.Record.{Record}
 use Rattle.records.specs.Records.{mode_named, by_named}
@@ -10,7 +10,6 @@ use Rattle.network.specs.declared.Hit.{Hit}
 use Rattle.network.specs.declared.Message.{Message}
 use Rattle.network.specs.declared.Part.{Part}
 use Rattle.network.specs.declared.Refusal.{Refusal}
-use Rattle.network.specs.declared.Reply.{Reply}
 use Rattle.network.specs.declared.Report.{Report}
 use Rattle.network.specs.declared.State.{State}
 use Rattle.network.specs.declared.Trouble.{Trouble}
@@ -54,16 +53,16 @@ said (Message.CheckDone transceiver) = a_report Report.Checked
 
 -- taken: the record is new
 abbrev pub taken : State → Part
-taken s = record { reply = Reply.Taken; state = s }
+taken s = record { reply = Ok tt; state = s }
 
 -- R2: refused, the record stays as it was
 abbrev pub declined : State → Refusal → Part
-declined s refusal = record { reply = Reply.Refused refusal; state = s }
+declined s refusal = record { reply = Err refusal; state = s }
 
 -- one part where the reply is taken, and another for each refusal
-abbrev pub by_reply : Reply → Part → (Refusal → Part) → Part
-by_reply Reply.Taken part refuse = part
-by_reply (Reply.Refused refusal) part refuse = refuse refusal
+abbrev pub by_reply : Result Unit Refusal → Part → (Refusal → Part) → Part
+by_reply (Ok tt) part refuse = part
+by_reply (Err refusal) part refuse = refuse refusal
 
 -- N14: a request for one of the three modes is stored where it is taken
 unfoldable pub wanted_part : State → Mode → Part
@@ -95,15 +94,14 @@ answer_part n s controller mode ok =
     cond (ltb 1 ok) (declined s Refusal.OutOfRange) (taken_part s (Report.Controller mode) (after_answer n s controller (eqb ok 1)))
 
 -- R15, B6, X5: a bus-off or a stall that the step does not take is refused with 22
-abbrev pub hit_reply : Hit → Reply
-hit_reply Hit.Recover = Reply.Taken
-hit_reply Hit.Restart = Reply.Taken
-hit_reply Hit.Reset = Reply.Taken
-hit_reply Hit.NotTaken = Reply.Refused Refusal.NotTaken
+abbrev pub hit_reply : Option Hit → Result Unit Refusal
+hit_reply (Some hit) = Ok tt
+hit_reply None = Err Refusal.NotTaken
 
--- the reply to trouble and the record after it
-unfoldable pub hit_part : State → Hit → Part
-hit_part s hit = record { reply = hit_reply hit; state = after_hit s hit }
+-- the reply to trouble and the record after it; not taken, all stays
+unfoldable pub hit_part : State → Option Hit → Part
+hit_part s (Some hit) = taken (after_hit s hit)
+hit_part s None = declined s Refusal.NotTaken
 
 -- the reply to a call and the record after it
 unfoldable pub part_of : Network → State → Sight → Part

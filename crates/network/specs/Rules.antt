@@ -1,8 +1,7 @@
 -- The conditions of the tick's decision: whether the step is done, whether an answer is a refusal, whether the timer is reached, and the outfit. The
 -- rules N13, S27, T1, T10, T13 and T19 of docs/RULES.md.
-use Rattle.std.specs.Prelude.{ℕ, ◌+◌, List, Bool, true, false, cond, leb, ltb}
+use Rattle.std.specs.Prelude.{ℕ, ◌+◌, List, Bool, true, false, cond, leb, ltb, Option, None, Some}
 use Rattle.lists.specs.Lists.{any, every}
-use Rattle.settings.specs.declared.Transceiver.{Transceiver}
 use Rattle.settings.specs.declared.Relation.{Relation}
 use Rattle.settings.specs.declared.Network.{Network}
 use Rattle.steps.specs.declared.Ask.{Ask}
@@ -12,32 +11,23 @@ use Rattle.steps.specs.declared.Move.{Move}
 use Rattle.steps.specs.Steps.{asks_for, timer_of}
 use Rattle.steps.specs.Decision.{decision}
 use Rattle.network.specs.declared.LastAnswer.{LastAnswer}
-use Rattle.network.specs.declared.Heard.{Heard}
 use Rattle.network.specs.declared.State.{State}
 use Rattle.network.specs.State.{heard_of}
 
 -- the controller answered ok in this step; one that has not answered yet is not ok
-abbrev pub okay : LastAnswer → Bool
-okay LastAnswer.Pending = false
-okay LastAnswer.Okay = true
-okay LastAnswer.Refused = false
+abbrev pub is_okay : LastAnswer → Bool
+is_okay LastAnswer.Pending = false
+is_okay LastAnswer.Okay = true
+is_okay LastAnswer.Refused = false
 
--- the controller answered with ok 0; no answer is no refusal
-abbrev pub refusal : LastAnswer → Bool
-refusal LastAnswer.Pending = false
-refusal LastAnswer.Okay = false
-refusal LastAnswer.Refused = true
-
--- the slot of a controller holds an ok
-abbrev pub is_okay : Heard → Bool
-is_okay h = okay h.answer
-
--- the slot of a controller holds a refusal: step 12 with partial networking looks for one
-abbrev pub is_refusal : Heard → Bool
-is_refusal h = refusal h.answer
+-- the controller answered with ok 0; no answer is no refusal. Step 12 with partial networking looks for one
+abbrev pub is_refusal : LastAnswer → Bool
+is_refusal LastAnswer.Pending = false
+is_refusal LastAnswer.Okay = false
+is_refusal LastAnswer.Refused = true
 
 -- N13: what was asked for is there: of controllers the last answer of each is ok; of all else the report has come
-abbrev pub done_by : Ask → List Heard → Bool → Bool
+abbrev pub done_by : Ask → List LastAnswer → Bool → Bool
 done_by Ask.Nothing hs reported = false
 done_by (Ask.Controllers mode) hs reported = every is_okay hs
 done_by (Ask.Transceiver mode) hs reported = reported
@@ -64,9 +54,9 @@ reached_by (Timer.Ensure ticks) ensure delay = leb ensure (ticks + 1)
 reached_by (Timer.Delay ticks) ensure delay = leb delay (ticks + 1)
 
 -- no transceiver, a transceiver, a transceiver with partial networking
-abbrev pub outfit_of : Transceiver → Bool → Outfit
-outfit_of Transceiver.Absent partial = Outfit.Bare
-outfit_of (Transceiver.Present id) partial = cond partial Outfit.Partial Outfit.Fitted
+abbrev pub outfit_of : Option ℕ → Bool → Outfit
+outfit_of None partial = Outfit.Bare
+outfit_of (Some id) partial = cond partial Outfit.Partial Outfit.Fitted
 
 -- T1, T19: the one move that a tick makes; the last answer of some controller being a refusal is one of its conditions
 unfoldable pub move_of : Network → State → Move

@@ -6,19 +6,14 @@ use Rattle.settings.specs.declared.Network.{Network}
 use Rattle.settings.specs.Settings.{most_controllers}
 use Rattle.steps.specs.After.{first_down}
 use Rattle.network.specs.declared.LastAnswer.{LastAnswer}
-use Rattle.network.specs.declared.Heard.{Heard}
 use Rattle.network.specs.declared.State.{State}
 
--- the slot of a controller whose last answer is this
-abbrev pub heard : LastAnswer → Heard
-heard answer = record { answer = answer }
-
 -- no controller has answered
-abbrev pub blank_answers : List Heard
-blank_answers = replicate most_controllers (heard LastAnswer.Pending)
+abbrev pub blank_answers : List LastAnswer
+blank_answers = replicate most_controllers LastAnswer.Pending
 
 -- N3: the last answers of the network's controllers, in the order of the sheet
-abbrev pub heard_of : Network → State → List Heard
+abbrev pub heard_of : Network → State → List LastAnswer
 heard_of n s = take n.count s.answers
 
 -- N7, N8: at the start the first down step, which has not asked; no is wanted and counts as told, and there was no bus-off

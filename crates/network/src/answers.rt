@@ -1,8 +1,9 @@
 // Answers of controllers, and reports of a transceiver.
-ghost use Rattle.std.specs.Prelude.{◌≡◌};
-ghost use Rattle.network.specs.Answers.{awaits, takes_report, answer_of, after_answer, after_report};
+ghost use Rattle.std.specs.Prelude.{◌≡◌, eqb, position};
+ghost use Rattle.settings.specs.Settings.{controllers_of};
+ghost use Rattle.network.specs.Answers.{awaits, takes_report, after_answer, after_report};
 
-use crate::{Heard, LastAnswer, Report, State};
+use crate::{LastAnswer, Report, State};
 use settings::Network;
 use steps::Ask;
 
@@ -10,32 +11,11 @@ use steps::Ask;
 fn is_awaited(ask: Ask, report: Report) -> bool
     ensures { result ≡ awaits ask report }
 {
-    match ask {
-        Ask::Nothing => false,
-        Ask::Controllers(asked) => match report {
-            Report::Controller(mode) => asked.number() == mode,
-            Report::Transceiver(_) => false,
-            Report::Cleared => false,
-            Report::Checked => false,
-        },
-        Ask::Transceiver(asked) => match report {
-            Report::Controller(_) => false,
-            Report::Transceiver(mode) => asked.number() == mode,
-            Report::Cleared => false,
-            Report::Checked => false,
-        },
-        Ask::ClearWake => match report {
-            Report::Controller(_) => false,
-            Report::Transceiver(_) => false,
-            Report::Cleared => true,
-            Report::Checked => false,
-        },
-        Ask::CheckWake => match report {
-            Report::Controller(_) => false,
-            Report::Transceiver(_) => false,
-            Report::Cleared => false,
-            Report::Checked => true,
-        },
+    match (ask, report) {
+        (Ask::Controllers(asked), Report::Controller(mode)) => u8::from(asked) == mode,
+        (Ask::Transceiver(asked), Report::Transceiver(mode)) => u8::from(asked) == mode,
+        (Ask::ClearWake, Report::Cleared) | (Ask::CheckWake, Report::Checked) => true,
+        _ => false,
     }
 }
 
@@ -43,51 +23,37 @@ fn is_awaited(ask: Ask, report: Report) -> bool
 pub fn takes(state: State, report: Report) -> bool
     ensures { result ≡ takes_report state report }
 {
-    if state.asked {
-        let step = state.step;
-        let ask = step.asks();
-        return is_awaited(ask, report);
-    }
-    false
+    state.asked && is_awaited(state.step.asks(), report)
 }
 
-// A1: ok, or a refusal.
-fn answer_of(ok: bool) -> LastAnswer
-    ensures { result ≡ answer_of ok }
+// The slot of the controller with this id.
+fn slot_of(network: Network, id: u8) -> Option<usize>
+    ensures { result ≡ position (λ x. eqb x id) (controllers_of network) }
 {
-    if ok {
-        LastAnswer::Okay
-    } else {
-        LastAnswer::Refused
-    }
+    lists::in_use(&network.controllers, network.count)
+        .iter()
+        .position(|&x| x == id)
 }
 
 // N3, A2: the record with this answer of the controller, in place of an earlier one.
+// A changed copy: one slot is new, which a literal cannot say.
 pub fn with_answer(network: Network, state: State, id: u8, ok: bool) -> State
     ensures { result ≡ after_answer network state id ok }
 {
-    let ids = network.controllers;
-    let used = Network::in_use(network.count);
-    let heard = Heard {
-        answer: answer_of(ok),
-    };
-    let mut i: u8 = 0;
-    while i < used {
-        if ids[i as usize] == id {
-            let mut next = state;
-            next.answers[i as usize] = heard;
-            return next;
-        }
-        i += 1;
+    let mut next = state;
+    if let Some(i) = slot_of(network, id) {
+        next.answers[i] = LastAnswer::from(ok);
     }
-    state
+    next
 }
 
 // N3: the record with the report that was asked for.
+#[tactic(auto, unfolding(crate::specs::Answers::after_report))]
 pub fn with_report(state: State) -> State
     ensures { result ≡ after_report state }
 {
-    let mut next = state;
-    next.reported = true;
-    next
+    State {
+        reported: true,
+        ..state
+    }
 }

@@ -5,7 +5,8 @@ mod answers;
 mod parts;
 
 ghost use Rattle.std.specs.Prelude.{◌≡◌};
-ghost use Rattle.network.specs.State.{blank_answers, started, wants};
+ghost use Rattle.network.specs.State.{started, wants};
+ghost use Rattle.network.specs.Answers.{answer_of};
 ghost use Rattle.network.specs.Replies.{refusal_number};
 ghost use Rattle.network.specs.Parts.{taken, declined, addressee};
 
@@ -14,8 +15,8 @@ use records::Mode;
 use settings::{Id, Network};
 use steps::Step;
 
-// N3, K2: a controller's last answer in this step.
-#[derive(Clone, Copy)]
+// N3, K2: a controller's last answer in this step. Stays an enum and no Option of a flag: K2 asks for the answers as an enum.
+#[derive(Clone, Copy, Debug, PartialEq, Eq)]
 pub enum LastAnswer {
     Pending,
     Okay,
@@ -23,18 +24,27 @@ pub enum LastAnswer {
 }
 
 impl LastAnswer {
-    // The numbers that a controller answers with.
+    // The numbers that a controller answers with. They stay constants and are no discriminants: pending is no answer and has no number.
     pub const REFUSED: u8 = 0;
 
     pub const OKAY: u8 = 1;
 }
 
-#[derive(Clone, Copy)]
-pub struct Heard {
-    pub answer: LastAnswer,
+// A1: ok, or a refusal.
+impl From<bool> for LastAnswer {
+    ghost from_gives = { λ ok answer. answer ≡ answer_of ok };
+
+    fn from(ok: bool) -> LastAnswer {
+        if ok {
+            LastAnswer::Okay
+        } else {
+            LastAnswer::Refused
+        }
+    }
 }
 
 // N3, K2: the record of a network. The settings stand apart from it.
+// It stays beside its network as a second parameter: no contract says a fact of the two.
 #[derive(Clone, Copy)]
 pub struct State {
     pub step: Step,
@@ -44,69 +54,51 @@ pub struct State {
     // The bus-offs since the last all-clear; it stays at 255.
     pub count: u8,
     // Whether the step has asked, what each controller answered, and whether the report of the transceiver has come.
+    // They stay three fields and no Option: N3 gives a record each of them in every step, and `Kept` speaks of each.
     pub asked: bool,
-    pub answers: [Heard; Network::MOST_CONTROLLERS],
+    // The answers stay beside the controllers, in their order: a sheet has no place for them (N3, `heard_of`).
+    pub answers: [LastAnswer; Network::MOST_CONTROLLERS],
     pub reported: bool,
 }
 
-// A network after its tick, and the number of the next record in the lent buffer.
-#[derive(Clone, Copy)]
-pub struct Ticked {
-    pub state: State,
-    pub next: usize,
-}
-
 // What befalls a network, and is answered at once: one of its controllers is bus-off, or its sending has stuck.
-#[derive(Clone, Copy)]
+#[derive(Clone, Copy, Debug, PartialEq, Eq)]
 pub enum Trouble {
     BusOff,
     Stall,
 }
 
-// What trouble does: recovery begins, coming up begins anew, a reset begins, or the step does not take it.
-#[derive(Clone, Copy)]
+// What trouble does in a step that takes it: recovery begins, coming up begins anew, or a reset begins.
+#[derive(Clone, Copy, Debug, PartialEq, Eq)]
 pub enum Hit {
     Recover,
     Restart,
     Reset,
-    NotTaken,
 }
 
 // Why a network refuses a call that names it, by its rule and its number.
-#[derive(Clone, Copy)]
+#[derive(Clone, Copy, Debug, PartialEq, Eq)]
 pub enum Refusal {
-    // R13: 21, a mode above 2 or an ok value above 1.
-    OutOfRange,
-    // R14, R22, R23: 08, 24, 25, silent asked for where the network is asleep, comes up, goes down.
-    Asleep,
-    ComingUp,
-    GoingDown,
-    // R15: 22, an answer, a report, a bus-off or a stall that the step does not take.
-    NotTaken,
-}
-
-// What a network replies to a call that names it.
-#[derive(Clone, Copy)]
-pub enum Reply {
-    Taken,
-    Refused(Refusal),
+    // R13: a mode above 2 or an ok value above 1.
+    OutOfRange = 0x21,
+    // R14, R22, R23: silent asked for where the network is asleep, comes up, goes down.
+    Asleep = 0x08,
+    ComingUp = 0x24,
+    GoingDown = 0x25,
+    // R15: an answer, a report, a bus-off or a stall that the step does not take.
+    NotTaken = 0x22,
 }
 
 // What a network makes of such a call: its reply, and its record after the call.
+// Stays two fields and is no Result of a record: R2 speaks of the record beside a refusal too (`refused_stays`).
 #[derive(Clone, Copy)]
 pub struct Part {
-    pub reply: Reply,
+    pub reply: Result<(), Refusal>,
     pub state: State,
 }
 
-// What it makes of trouble, and the number of records handed out.
-#[derive(Clone, Copy)]
-pub struct Struck {
-    pub part: Part,
-    pub count: usize,
-}
-
 // What a controller or a transceiver says: a controller's answer on a mode, by its number; a transceiver's mode; the wake flag.
+// Modes and ok stay numbers, here and in `Message`: one that is out of range is refused with 21 (R13), so a caller can name it.
 #[derive(Clone, Copy)]
 pub enum Report {
     Controller(u8),
@@ -131,18 +123,11 @@ impl Message {
         ensures { result ≡ addressee self }
     {
         match self {
-            Message::Request { handle, mode: _ } => Id::OfNetwork(handle),
-            Message::Answer {
-                controller,
-                mode: _,
-                ok: _,
-            } => Id::OfController(controller),
-            Message::TransceiverMode {
-                transceiver,
-                mode: _,
-            } => Id::OfTransceiver(transceiver),
-            Message::ClearDone { transceiver } => Id::OfTransceiver(transceiver),
-            Message::CheckDone { transceiver } => Id::OfTransceiver(transceiver),
+            Message::Request { handle, .. } => Id::OfNetwork(handle),
+            Message::Answer { controller, .. } => Id::OfController(controller),
+            Message::TransceiverMode { transceiver, .. }
+            | Message::ClearDone { transceiver }
+            | Message::CheckDone { transceiver } => Id::OfTransceiver(transceiver),
         }
     }
 }
@@ -153,7 +138,7 @@ impl Part {
         ensures { result ≡ taken state }
     {
         Part {
-            reply: Reply::Taken,
+            reply: Ok(()),
             state,
         }
     }
@@ -163,73 +148,49 @@ impl Part {
         ensures { result ≡ declined state refusal }
     {
         Part {
-            reply: Reply::Refused(refusal),
+            reply: Err(refusal),
             state,
         }
     }
 }
 
-impl Refusal {
-    // R13 to R15, R22, R23, K6: the number of this refusal.
-    pub fn number(self) -> u8
-        ensures { result ≡ refusal_number self }
-    {
-        match self {
-            Refusal::OutOfRange => 0x21,
-            Refusal::Asleep => 0x08,
-            Refusal::ComingUp => 0x24,
-            Refusal::GoingDown => 0x25,
-            Refusal::NotTaken => 0x22,
-        }
+// R13 to R15, R22, R23, K6: the number of a refusal.
+impl From<Refusal> for u8 {
+    ghost from_gives = { λ refusal number. number ≡ refusal_number refusal };
+
+    fn from(refusal: Refusal) -> u8 {
+        refusal as u8
     }
 }
 
 impl State {
-    // B2: the most bus-offs that are counted.
-    pub const MOST_BUS_OFFS: u8 = 255;
-
     // No controller has answered.
-    pub fn no_answers() -> [Heard; Network::MOST_CONTROLLERS]
-        ensures { result ≡ blank_answers }
-    {
-        let pending = Heard {
-            answer: LastAnswer::Pending,
-        };
-        [pending; Network::MOST_CONTROLLERS]
-    }
+    pub const NO_ANSWERS: [LastAnswer; Network::MOST_CONTROLLERS] =
+        [LastAnswer::Pending; Network::MOST_CONTROLLERS];
 
     // N7, N8: the record at the start.
     pub fn start(network: Network) -> State
         ensures { result ≡ started network }
     {
-        let step = steps::first_down(network.partial);
-        let answers = State::no_answers();
         State {
-            step,
+            step: steps::first_down(network.partial),
             wanted: Mode::No,
             told: Mode::No,
             count: 0,
             asked: false,
-            answers,
+            answers: State::NO_ANSWERS,
             reported: false,
         }
     }
 
     // N14: the wanted mode is the one requested, and all else stays.
+    #[tactic(auto, unfolding(crate::specs::State::wants))]
     pub fn want(self, mode: Mode) -> State
         ensures { result ≡ wants self mode }
     {
-        let step = self.step;
-        let told = self.told;
-        let answers = self.answers;
         State {
-            step,
             wanted: mode,
-            told,
-            count: self.count,
-            asked: self.asked,
-            answers,
-            reported: self.reported,
+            ..self
         }
     }
 }

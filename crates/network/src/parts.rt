@@ -4,35 +4,31 @@ ghost use Rattle.network.specs.Replies.{silent_reply, request_reply};
 ghost use Rattle.network.specs.Parts.{wanted_part, request_part, out_of_range_part, taken_part, report_part, answer_part, part_of, said};
 
 use crate::answers::{takes, with_answer, with_report};
-use crate::{LastAnswer, Message, Part, Refusal, Reply, Report, State};
-use records::{ControllerMode, Mode, NamedMode, TransceiverMode};
+use crate::{LastAnswer, Message, Part, Refusal, Report, State};
+use records::{ControllerMode, Mode, TransceiverMode};
 use settings::Network;
 use steps::{Phase, Step};
 
 // N15, R14, R22, R23: silent is taken while the network is up; else the refusal says where it is instead.
-fn silent_reply(phase: Phase) -> Reply
+fn silent_reply(phase: Phase) -> Result<(), Refusal>
     ensures { result ≡ silent_reply phase }
 {
     match phase {
-        Phase::Off => Reply::Refused(Refusal::Asleep),
-        Phase::Rising => Reply::Refused(Refusal::ComingUp),
-        Phase::Checking => Reply::Taken,
-        Phase::Full => Reply::Taken,
-        Phase::Recovering => Reply::Taken,
-        Phase::Silent => Reply::Taken,
-        Phase::Falling => Reply::Refused(Refusal::GoingDown),
-        Phase::Resetting => Reply::Taken,
+        Phase::Off => Err(Refusal::Asleep),
+        Phase::Rising => Err(Refusal::ComingUp),
+        Phase::Falling => Err(Refusal::GoingDown),
+        Phase::Checking | Phase::Full | Phase::Silent => Ok(()),
+        Phase::Recovering | Phase::Resetting => Ok(()),
     }
 }
 
 // N15: no and full may be asked for in every step.
-fn request_reply(step: Step, mode: Mode) -> Reply
+fn request_reply(step: Step, mode: Mode) -> Result<(), Refusal>
     ensures { result ≡ request_reply step mode }
 {
     match mode {
-        Mode::No => Reply::Taken,
+        Mode::No | Mode::Full => Ok(()),
         Mode::Silent => silent_reply(step.phase()),
-        Mode::Full => Reply::Taken,
     }
 }
 
@@ -40,20 +36,20 @@ fn request_reply(step: Step, mode: Mode) -> Reply
 fn want_mode(state: State, mode: Mode) -> Part
     ensures { result ≡ wanted_part state mode }
 {
-    let step = state.step;
-    match request_reply(step, mode) {
-        Reply::Taken => Part::take(state.want(mode)),
-        Reply::Refused(refusal) => Part::decline(state, refusal),
+    match request_reply(state.step, mode) {
+        Ok(()) => Part::take(state.want(mode)),
+        Err(refusal) => Part::decline(state, refusal),
     }
 }
 
 // R13: a communication mode is wanted, by its number.
+#[tactic(auto, unfolding(crate::specs::Parts::request_part))]
 pub fn request_part(state: State, mode: u8) -> Part
     ensures { result ≡ request_part state mode }
 {
-    match Mode::from_number(mode) {
-        NamedMode::Known(wanted) => want_mode(state, wanted),
-        NamedMode::Unknown => Part::decline(state, Refusal::OutOfRange),
+    match Mode::try_from(mode) {
+        Ok(wanted) => want_mode(state, wanted),
+        Err(_) => Part::decline(state, Refusal::OutOfRange),
     }
 }
 
@@ -64,12 +60,12 @@ fn is_out_of_range(report: Report) -> bool
     match report {
         Report::Controller(mode) => ControllerMode::MOST_NUMBER < mode,
         Report::Transceiver(mode) => TransceiverMode::MOST_NUMBER < mode,
-        Report::Cleared => false,
-        Report::Checked => false,
+        Report::Cleared | Report::Checked => false,
     }
 }
 
 // R13, R15, A6: the record after it, where the step takes the report.
+#[tactic(auto, unfolding(crate::specs::Parts::taken_part))]
 fn take_report(state: State, report: Report, after: State) -> Part
     ensures { result ≡ taken_part state report after }
 {
@@ -83,6 +79,7 @@ fn take_report(state: State, report: Report, after: State) -> Part
 }
 
 // A report of the transceiver.
+#[tactic(auto, unfolding(crate::specs::Parts::report_part))]
 pub fn report_part(state: State, report: Report) -> Part
     ensures { result ≡ report_part state report }
 {
@@ -101,21 +98,19 @@ pub fn answer_part(network: Network, state: State, id: u8, mode: u8, ok: u8) -> 
 }
 
 // What a network makes of a message that names it: by value, one record and the settings of one network.
+#[tactic(auto, unfolding(crate::specs::Parts::part_of))]
 pub fn part_of(network: Network, state: State, message: Message) -> Part
     ensures { result ≡ part_of network state (said message) }
 {
     match message {
-        Message::Request { handle: _, mode } => request_part(state, mode),
+        Message::Request { mode, .. } => request_part(state, mode),
         Message::Answer {
             controller,
             mode,
             ok,
         } => answer_part(network, state, controller, mode, ok),
-        Message::TransceiverMode {
-            transceiver: _,
-            mode,
-        } => report_part(state, Report::Transceiver(mode)),
-        Message::ClearDone { transceiver: _ } => report_part(state, Report::Cleared),
-        Message::CheckDone { transceiver: _ } => report_part(state, Report::Checked),
+        Message::TransceiverMode { mode, .. } => report_part(state, Report::Transceiver(mode)),
+        Message::ClearDone { .. } => report_part(state, Report::Cleared),
+        Message::CheckDone { .. } => report_part(state, Report::Checked),
     }
 }

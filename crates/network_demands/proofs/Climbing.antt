@@ -9,7 +9,7 @@ use Rattle.lists.proofs.Any.{and_both}
 use Rattle.records.specs.declared.ControllerMode.{ControllerMode}
 use Rattle.records.specs.declared.Mode.{Mode}
 use Rattle.records.specs.Records.{mode_number}
-use Rattle.settings.specs.declared.Transceiver.{Transceiver}
+use Rattle.std.specs.Prelude.{Option, None, Some}
 use Rattle.settings.specs.declared.Network.{Network}
 use Rattle.settings.specs.Settings.{controllers_of, listed}
 use Rattle.settings.specs.Good.{Distinct, InRange}
@@ -59,10 +59,10 @@ use Rattle.network_demands.proofs.NeverStuck.{by_outfit_lem}
 listed_outfit : (n : Network) → length (listed n.transceiver) ≡ by_transceiver (own_outfit n) 0 1
 listed_outfit n = by_fit_lem n.transceiver n.partial
   where
-    by_fit_lem : (t : Transceiver) (b : Bool) → length (listed t) ≡ by_transceiver (outfit_of t b) 0 1
-    by_fit_lem Transceiver.Absent b = refl
-    by_fit_lem (Transceiver.Present id) true = refl
-    by_fit_lem (Transceiver.Present id) false = refl
+    by_fit_lem : (t : Option ℕ) (b : Bool) → length (listed t) ≡ by_transceiver (outfit_of t b) 0 1
+    by_fit_lem None b = refl
+    by_fit_lem (Some id) true = refl
+    by_fit_lem (Some id) false = refl
 
 -- while no is told the network is not up
 no_down : (n : Network) (h : OwnHistory) → Ran n h → (state_of n h).told ≡ Mode.No → is_up (state_of n h).step ≡ false
@@ -188,10 +188,10 @@ rest_told n g f h r z =
 rest_figure : (n : Network) → by_transceiver (own_outfit n) 3 4 ≡ ticks_from_rest n
 rest_figure n = by_fit_lem n.transceiver n.partial
   where
-    by_fit_lem : (t : Transceiver) (b : Bool) → by_transceiver (outfit_of t b) 3 4 ≡ by_fit t b 3 4 4
-    by_fit_lem Transceiver.Absent b = refl
-    by_fit_lem (Transceiver.Present id) true = refl
-    by_fit_lem (Transceiver.Present id) false = refl
+    by_fit_lem : (t : Option ℕ) (b : Bool) → by_transceiver (outfit_of t b) 3 4 ≡ by_fit t b 3 4 4
+    by_fit_lem None b = refl
+    by_fit_lem (Some id) true = refl
+    by_fit_lem (Some id) false = refl
 
 module _ (n : Network) (g : InRange n) (f : Distinct (controllers_of n)) (h : OwnHistory) (z : is_at_rest n h ≡ true) where
   abbrev after : OwnHistory → State
@@ -276,12 +276,12 @@ module _ (n : Network) (g : InRange n) where
   down_left : (delay : ℕ) → ticks_left (own_outfit n) delay (first_down n.partial) ≡ ticks_from_start n - 1
   down_left delay = by_fit_lem n.transceiver n.partial g.partial
     where
-      by_fit_lem : (t : Transceiver) (b : Bool) → (b ≡ true → t ≡ Transceiver.Absent → ⊥)
+      by_fit_lem : (t : Option ℕ) (b : Bool) → (b ≡ true → t ≡ None → ⊥)
           → ticks_left (outfit_of t b) delay (first_down b) ≡ by_fit t b 3 4 6 + by_fit t b 3 4 4 - 1
-      by_fit_lem Transceiver.Absent true f = absurd (f refl refl)
-      by_fit_lem Transceiver.Absent false f = refl
-      by_fit_lem (Transceiver.Present id) true f = refl
-      by_fit_lem (Transceiver.Present id) false f = refl
+      by_fit_lem None true f = absurd (f refl refl)
+      by_fit_lem None false f = refl
+      by_fit_lem (Some id) true f = refl
+      by_fit_lem (Some id) false f = refl
 
   down_records : length (requests (asks_for (first_down n.partial)) n)
       + records_left (own_outfit n) (length (controllers_of n)) (first_down n.partial) ≡ records_from_start n
@@ -289,14 +289,14 @@ module _ (n : Network) (g : InRange n) where
       by_fit_lem n.transceiver n.partial g.partial (length (controllers_of n)) (length (listed n.transceiver)) (controllers_counted n g)
       (listed_outfit n) (length_round n ControllerMode.Stopped) (length_errand n Ask.ClearWake refl)
     where
-      by_fit_lem : (t : Transceiver) (b : Bool) → (b ≡ true → t ≡ Transceiver.Absent → ⊥) → (c l : ℕ) → c ≡ n.count
+      by_fit_lem : (t : Option ℕ) (b : Bool) → (b ≡ true → t ≡ None → ⊥) → (c l : ℕ) → c ≡ n.count
           → l ≡ by_transceiver (outfit_of t b) 0 1 → length (requests (Ask.Controllers ControllerMode.Stopped) n) ≡ c
           → length (requests Ask.ClearWake n) ≡ l
           → length (requests (asks_for (first_down b)) n) + records_left (outfit_of t b) c (first_down b) ≡ 5 * n.count + by_fit t b 3 5 7
-      by_fit_lem Transceiver.Absent true f c l e p round errand = absurd (f refl refl)
-      by_fit_lem Transceiver.Absent false f c l e p round errand = omega (arith, e, round)
-      by_fit_lem (Transceiver.Present id) true f c l e p round errand = omega (arith, e, p, errand)
-      by_fit_lem (Transceiver.Present id) false f c l e p round errand = omega (arith, e, round)
+      by_fit_lem None true f c l e p round errand = absurd (f refl refl)
+      by_fit_lem None false f c l e p round errand = omega (arith, e, round)
+      by_fit_lem (Some id) true f c l e p round errand = omega (arith, e, p, errand)
+      by_fit_lem (Some id) false f c l e p round errand = omega (arith, e, round)
 
 -- before the first tick nothing was handed out
 module _ (n : Network) (h : OwnHistory) where
@@ -355,10 +355,10 @@ module _ (n : Network) (g : InRange n) (f : Distinct (controllers_of n)) where
   unfolding state_of started
   start_figure = omega (arith, down_left n g (delay_of n 0), some_ticks n.transceiver n.partial)
     where
-      some_ticks : (t : Transceiver) (b : Bool) → 0 < by_fit t b 3 4 6 + by_fit t b 3 4 4
-      some_ticks Transceiver.Absent b = omega arith
-      some_ticks (Transceiver.Present id) true = omega arith
-      some_ticks (Transceiver.Present id) false = omega arith
+      some_ticks : (t : Option ℕ) (b : Bool) → 0 < by_fit t b 3 4 6 + by_fit t b 3 4 4
+      some_ticks None b = omega arith
+      some_ticks (Some id) true = omega arith
+      some_ticks (Some id) false = omega arith
 
   abbrev Rises : OwnHistory → Type 0
   Rises q = Heads n (risen q) q false Mode.No (suc (left n (state_of n [])))
@@ -465,10 +465,10 @@ module _ (n : Network) (g : InRange n) (f : Distinct (controllers_of n)) where
           (λ z. absurd (false≢true (sym (ap rested_phase (first_down_lem n.partial).falls) ∙ ap has_rested (sym u.step) ∙ z))))
           ∙ sym (not_first n.transceiver n.partial)
         where
-          not_first : (t : Transceiver) (b : Bool) → eqb (by_fit t b 3 4 6) 1 ≡ false
-          not_first Transceiver.Absent b = refl
-          not_first (Transceiver.Present id) true = refl
-          not_first (Transceiver.Present id) false = refl
+          not_first : (t : Option ℕ) (b : Bool) → eqb (by_fit t b 3 4 6) 1 ≡ false
+          not_first None b = refl
+          not_first (Some id) true = refl
+          not_first (Some id) false = refl
       by_ticks (suc x) k =
           let some : 0 < tally ticked q = omega (arith, k) in
           let way = rises q r.1 (fewer_ticks number t q [] i) some in
@@ -494,10 +494,10 @@ module _ (n : Network) (g : InRange n) (f : Distinct (controllers_of n)) where
               not_ended (is_end (decides n s)) refl (up_rested (phase_of s.step) (full_quiet s.step full).up)
               ∙ sym (ne_eqb (ticks_to_rest n) (suc (tally ticked q)) (λ e. omega (arith, e, late, some_rest n.transceiver n.partial)))
             where
-              some_rest : (t : Transceiver) (b : Bool) → 2 < by_fit t b 3 4 4
-              some_rest Transceiver.Absent b = omega arith
-              some_rest (Transceiver.Present id) true = omega arith
-              some_rest (Transceiver.Present id) false = omega arith
+              some_rest : (t : Option ℕ) (b : Bool) → 2 < by_fit t b 3 4 4
+              some_rest None b = omega arith
+              some_rest (Some id) true = omega arith
+              some_rest (Some id) false = omega arith
 
               not_ended : (b : Bool) → is_end (decides n s) ≡ b → has_rested s.step ≡ true → is_end (decides n s) ≡ false
               not_ended true e rest = absurd (true≢false (sym rest ∙ ends n s suited (state_kept n g (q ++ []) r.1) e))

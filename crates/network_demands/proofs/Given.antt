@@ -6,7 +6,7 @@ use Rattle.records.specs.declared.Record.{Record}
 use Rattle.records.specs.declared.ControllerMode.{ControllerMode}
 use Rattle.records.specs.declared.Mode.{Mode}
 use Rattle.records.specs.Records.{controller_number, transceiver_number}
-use Rattle.settings.specs.declared.Transceiver.{Transceiver}
+use Rattle.std.specs.Prelude.{Some}
 use Rattle.settings.specs.declared.Network.{Network}
 use Rattle.settings.specs.Settings.{controllers_of, listed, member}
 use Rattle.steps.specs.declared.Step.{Step}
@@ -77,7 +77,7 @@ module _ (n : Network) where
       request_given 1 c 1 asks_to_start (λ ask. start_asks c ask ∙ rw own (and-true _)) refl refl refl refl
 
   -- ---- kinds 2, 4 and 5: the transceiver is asked by just the requests for what is to be reported
-  module _ (t : ℕ) (present : n.transceiver ≡ Transceiver.Present t) where
+  module _ (t : ℕ) (present : n.transceiver ≡ Some t) where
     -- a request to the transceiver, by the test of its kind and argument
     errand_asks : (p : Record → Bool) (errand : Errand) (b : Bool) → p (errand_record errand t) ≡ b && eqb t t
         → any p (map (errand_record errand) (listed n.transceiver)) ≡ b
@@ -122,13 +122,13 @@ module _ (n : Network) where
   controller_requested c mode own =
       request_given 1 c mode (λ ask. awaits ask (Report.Controller mode)) (λ ask. controller_asks c mode ask ∙ rw own (and-true _)) refl refl refl refl
 
-  pub transceiver_requested : (t mode : ℕ) → n.transceiver ≡ Transceiver.Present t → Requested 2 t mode (Report.Transceiver mode)
+  pub transceiver_requested : (t mode : ℕ) → n.transceiver ≡ Some t → Requested 2 t mode (Report.Transceiver mode)
   transceiver_requested t mode present = request_given 2 t mode _ (transceiver_asks t present mode) refl refl refl refl
 
-  pub clear_requested : (t : ℕ) → n.transceiver ≡ Transceiver.Present t → Requested 4 t 0 Report.Cleared
+  pub clear_requested : (t : ℕ) → n.transceiver ≡ Some t → Requested 4 t 0 Report.Cleared
   clear_requested t present = request_given 4 t 0 _ (clear_asks t present) refl refl refl refl
 
-  pub check_requested : (t : ℕ) → n.transceiver ≡ Transceiver.Present t → Requested 5 t 0 Report.Checked
+  pub check_requested : (t : ℕ) → n.transceiver ≡ Some t → Requested 5 t 0 Report.Checked
   check_requested t present = request_given 5 t 0 _ (check_asks t present) refl refl refl refl
 
   -- all of kind 1

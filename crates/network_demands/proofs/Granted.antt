@@ -9,7 +9,7 @@ use Rattle.records.specs.declared.ControllerMode.{ControllerMode}
 use Rattle.records.specs.declared.TransceiverMode.{TransceiverMode}
 use Rattle.records.specs.declared.Mode.{Mode}
 use Rattle.records.specs.Records.{handed, controller_number, transceiver_number}
-use Rattle.settings.specs.declared.Transceiver.{Transceiver}
+use Rattle.std.specs.Prelude.{Option, None, Some}
 use Rattle.settings.specs.declared.Network.{Network}
 use Rattle.settings.specs.Settings.{controllers_of, member}
 use Rattle.settings.specs.Good.{Distinct, InRange}
@@ -21,10 +21,9 @@ use Rattle.steps.specs.declared.Move.{Move}
 use Rattle.steps.specs.Steps.{asks_for, is_ask, is_asking}
 use Rattle.steps.specs.After.{step_after}
 use Rattle.network.specs.declared.LastAnswer.{LastAnswer}
-use Rattle.network.specs.declared.Heard.{Heard}
 use Rattle.network.specs.declared.Report.{Report}
 use Rattle.network.specs.declared.State.{State}
-use Rattle.network.specs.State.{heard, heard_of}
+use Rattle.network.specs.State.{heard_of}
 use Rattle.network.specs.Rules.{is_okay, is_refusal, outfit_of}
 use Rattle.network.specs.Moving.{asks_after, after_move}
 use Rattle.network.specs.Answers.{awaits, takes_report, answer_of}
@@ -171,7 +170,7 @@ module _ (n : Network) (g : InRange n) (s : State) (kept : Kept n s) (q : OwnHis
 
         said : (value : ℕ) → ltb 1 value ≡ false
             → cond (eqb 1 value || false) true (cond (eqb 0 value) false (granted (handed 1 d (controller_number mode)) q)) ≡ true
-            → is_okay (heard (answer_of (eqb value 1))) ≡ true
+            → is_okay (answer_of (eqb value 1)) ≡ true
         said zero v o = absurd (false≢true o)
         said (suc zero) v o = refl
         said (suc (suc value)) v o = absurd (omega (arith, ltb-false 1 (suc (suc value)) v))
@@ -180,8 +179,8 @@ module _ (n : Network) (g : InRange n) (s : State) (kept : Kept n s) (q : OwnHis
             (granted (handed 1 d (controller_number mode)) q)) ≡ true → said_okay n (heard_state n s c ok).answers d ≡ true
         by_own true e z =
             subst (λ (x : ℕ). said_okay n (heard_state n s c ok).answers x ≡ true) (sym (eqb-true d c e))
-            (okay_own n s g kept c (heard (answer_of (eqb ok 1))) own ∙ said ok l z)
-        by_own false e z = okay_other n s.answers d c (heard (answer_of (eqb ok 1))) e m own ∙ i.okay mode a d m z
+            (okay_own n s g kept c (answer_of (eqb ok 1)) own ∙ said ok l z)
+        by_own false e z = okay_other n s.answers d c (answer_of (eqb ok 1)) e m own ∙ i.okay mode a d m z
 
     heard_reported : (kind argument : ℕ) (report : Report) (t : ℕ) → GrantedBy kind argument report → awaits (asks_for s.step) report ≡ true
         → granted (handed kind t argument) (seen (an_answer c k ok) 0 [] ∷ q) ≡ true → s.reported ≡ true
@@ -332,21 +331,21 @@ every_request p kind target argument (r ∷ l) e f =
 
 -- ---- where all is granted, the step is done
 -- all ok, none has refused
-none_refused : (hs : List Heard) → every is_okay hs ≡ true → any is_refusal hs ≡ false
+none_refused : (hs : List LastAnswer) → every is_okay hs ≡ true → any is_refusal hs ≡ false
 unfolding any
 none_refused [] e = refl
 none_refused (x ∷ hs) e =
     let both = and_both (is_okay x) (every is_okay hs) (sym (every_cons is_okay x hs) ∙ e) in
-    rw (none_refused hs both.1) (by_answer x.answer both.0)
+    rw (none_refused hs both.1) (by_answer x both.0)
   where
-    by_answer : (answer : LastAnswer) → is_okay (heard answer) ≡ true → is_refusal (heard answer) || false ≡ false
+    by_answer : (answer : LastAnswer) → is_okay answer ≡ true → is_refusal answer || false ≡ false
     by_answer LastAnswer.Pending e = refl
     by_answer LastAnswer.Okay e = refl
     by_answer LastAnswer.Refused e = absurd (false≢true e)
 
 -- who asks the transceiver for something has one
 has_transceiver_lem : (n : Network) (ask : Ask) → is_errand ask ≡ true → suits_ask (own_outfit n) ask ≡ true → (Q : Type 0)
-    → ((t : ℕ) → n.transceiver ≡ Transceiver.Present t → Q) → Q
+    → ((t : ℕ) → n.transceiver ≡ Some t → Q) → Q
 has_transceiver_lem n ask f u Q p = by_fit_lem n.transceiver n.partial refl u
   where
     no_ask : (a : Ask) → is_errand a ≡ true → suits_ask Outfit.Bare a ≡ true → Q
@@ -356,9 +355,9 @@ has_transceiver_lem n ask f u Q p = by_fit_lem n.transceiver n.partial refl u
     no_ask Ask.ClearWake f u = absurd (false≢true u)
     no_ask Ask.CheckWake f u = absurd (false≢true u)
 
-    by_fit_lem : (t : Transceiver) (partial : Bool) → n.transceiver ≡ t → suits_ask (outfit_of t partial) ask ≡ true → Q
-    by_fit_lem Transceiver.Absent partial e u = no_ask ask f u
-    by_fit_lem (Transceiver.Present t) partial e u = p t e
+    by_fit_lem : (t : Option ℕ) (partial : Bool) → n.transceiver ≡ t → suits_ask (outfit_of t partial) ask ≡ true → Q
+    by_fit_lem None partial e u = no_ask ask f u
+    by_fit_lem (Some t) partial e u = p t e
 
 module _ (n : Network) (g : InRange n) (f : Distinct (controllers_of n)) (h q : OwnHistory) (r : Ran n (q ++ h)) (calm : never struck q)
     (l : 0 < tally ticked q) (all : all_granted q ≡ true) where

@@ -4,7 +4,7 @@ use Rattle.lists.proofs.Basics.{Bool}
 use Rattle.lists.proofs.Basics.{true, false, cond, false≢true, ltb}
 use Rattle.lists.proofs.Tests.{split}
 use Rattle.records.specs.declared.Mode.{Mode}
-use Rattle.settings.specs.declared.Transceiver.{Transceiver}
+use Rattle.std.specs.Prelude.{Option, None, Some}
 use Rattle.settings.specs.declared.Network.{Network}
 use Rattle.settings.specs.Settings.{controllers_of}
 use Rattle.settings.specs.Good.{Distinct, InRange}
@@ -110,10 +110,10 @@ delay_most n count some = split (λ (d : ℕ). delay_of n count ≤ d) (exceeds 
 pub by_outfit_lem : (n : Network) (bare fitted partial : ℕ) → by_outfit n bare fitted partial ≡ by_each (own_outfit n) bare fitted partial
 by_outfit_lem n bare fitted partial = by_fit_lem n.transceiver n.partial
   where
-    by_fit_lem : (t : Transceiver) (b : Bool) → by_fit t b bare fitted partial ≡ by_each (outfit_of t b) bare fitted partial
-    by_fit_lem Transceiver.Absent b = refl
-    by_fit_lem (Transceiver.Present id) true = refl
-    by_fit_lem (Transceiver.Present id) false = refl
+    by_fit_lem : (t : Option ℕ) (b : Bool) → by_fit t b bare fitted partial ≡ by_each (outfit_of t b) bare fitted partial
+    by_fit_lem None b = refl
+    by_fit_lem (Some id) true = refl
+    by_fit_lem (Some id) false = refl
 
 -- one tick of the most is needed to ask
 asked_first : (outfit : Outfit) (most : ℕ) → by_each outfit 6 8 11 ≤ most → by_each outfit 5 7 10 ≤ most - 1

@@ -8,7 +8,7 @@ use Rattle.records.specs.declared.ControllerMode.{ControllerMode}
 use Rattle.records.specs.declared.TransceiverMode.{TransceiverMode}
 use Rattle.records.specs.declared.Mode.{Mode}
 use Rattle.records.specs.declared.Record.{Record}
-use Rattle.settings.specs.declared.Transceiver.{Transceiver}
+use Rattle.std.specs.Prelude.{Option, Some}
 use Rattle.settings.specs.declared.Network.{Network}
 use Rattle.settings.specs.Settings.{controllers_of, member}
 use Rattle.settings.specs.Good.{InRange}
@@ -21,10 +21,9 @@ use Rattle.steps.specs.declared.Move.{Move}
 use Rattle.steps.specs.Steps.{phase_of, asks_for, asks_to_start}
 use Rattle.steps.specs.After.{first_down, step_after}
 use Rattle.network.specs.declared.LastAnswer.{LastAnswer}
-use Rattle.network.specs.declared.Heard.{Heard}
 use Rattle.network.specs.declared.Report.{Report}
 use Rattle.network.specs.declared.State.{State}
-use Rattle.network.specs.State.{heard, blank_answers, heard_of, started}
+use Rattle.network.specs.State.{blank_answers, heard_of, started}
 use Rattle.network.specs.Rules.{is_okay, outfit_of}
 use Rattle.network.specs.Moving.{keeps_answers, after_move}
 use Rattle.network.specs.Answers.{awaits, takes_report, answer_of}
@@ -44,12 +43,12 @@ use Rattle.network_demands.proofs.Standing.{stands}
 
 -- ---- by the step, q being what follows the last 6 no
 -- step 2: the transceiver, where there is one, was reported normal, and a controller whose last answer here is ok said so on stopped
-record Stopping (n : Network) (answers : List Heard) (q : OwnHistory) : Type 0 where
-  normal : (t : ℕ) → n.transceiver ≡ Transceiver.Present t → any reported_normal q ≡ true
+record Stopping (n : Network) (answers : List LastAnswer) (q : OwnHistory) : Type 0 where
+  normal : (t : ℕ) → n.transceiver ≡ Some t → any reported_normal q ≡ true
   stopped : (c : ℕ) → member c (controllers_of n) ≡ true → said_okay n answers c ≡ true → said_ok c 0 q ≡ true
 
 -- by what is asked for
-abbrev ReadiedFor : Network → Ask → List Heard → Bool → OwnHistory → Type 0
+abbrev ReadiedFor : Network → Ask → List LastAnswer → Bool → OwnHistory → Type 0
 ReadiedFor n Ask.Nothing answers reported q = Unit
 ReadiedFor n (Ask.Controllers ControllerMode.Stopped) answers reported q = Stopping n answers q
 ReadiedFor n (Ask.Controllers ControllerMode.Started) answers reported q = Unit
@@ -60,7 +59,7 @@ ReadiedFor n Ask.ClearWake answers reported q = Unit
 ReadiedFor n Ask.CheckWake answers reported q = Unit
 
 -- only while the network comes up
-abbrev ReadiedIn : Network → Phase → Ask → List Heard → Bool → OwnHistory → Type 0
+abbrev ReadiedIn : Network → Phase → Ask → List LastAnswer → Bool → OwnHistory → Type 0
 ReadiedIn n Phase.Off ask answers reported q = Unit
 ReadiedIn n Phase.Rising ask answers reported q = ReadiedFor n ask answers reported q
 ReadiedIn n Phase.Checking ask answers reported q = Unit
@@ -70,7 +69,7 @@ ReadiedIn n Phase.Silent ask answers reported q = Unit
 ReadiedIn n Phase.Falling ask answers reported q = Unit
 ReadiedIn n Phase.Resetting ask answers reported q = Unit
 
-abbrev Readied : Network → Step → List Heard → Bool → OwnHistory → Type 0
+abbrev Readied : Network → Step → List LastAnswer → Bool → OwnHistory → Type 0
 Readied n step answers reported q = ReadiedIn n (phase_of step) (asks_for step) answers reported q
 
 -- ---- what is done
@@ -85,14 +84,14 @@ module _ (n : Network) (s : State) where
 
 module _ (n : Network) where
   -- ---- what is said of one suffix is said of a longer one
-  record Onward (answers answers' : List Heard) (reported reported' : Bool) (ask : Ask) (q q' : OwnHistory) : Type 0 where
+  record Onward (answers answers' : List LastAnswer) (reported reported' : Bool) (ask : Ask) (q q' : OwnHistory) : Type 0 where
     normal : any reported_normal q ≡ true → any reported_normal q' ≡ true
     reports : reported' ≡ true → ask ≡ Ask.Transceiver TransceiverMode.Normal → (reported ≡ true → any reported_normal q ≡ true)
         → any reported_normal q' ≡ true
     stopped : ask ≡ Ask.Controllers ControllerMode.Stopped → (c : ℕ) → member c (controllers_of n) ≡ true
         → (said_okay n answers c ≡ true → said_ok c 0 q ≡ true) → said_okay n answers' c ≡ true → said_ok c 0 q' ≡ true
 
-  onward : (answers answers' : List Heard) (reported reported' : Bool) (q q' : OwnHistory) (phase : Phase) (ask : Ask)
+  onward : (answers answers' : List LastAnswer) (reported reported' : Bool) (q q' : OwnHistory) (phase : Phase) (ask : Ask)
       → Onward answers answers' reported reported' ask q q' → ReadiedIn n phase ask answers reported q → ReadiedIn n phase ask answers' reported' q'
   onward answers answers' reported reported' q q' Phase.Off ask o i = tt
   onward answers answers' reported reported' q q' Phase.Rising Ask.Nothing o i = tt
@@ -118,7 +117,7 @@ module _ (n : Network) where
   said_on e q c a b = rw (a, b) refl
 
   -- such an entry, after which answers and report are the same
-  unheard : (answers : List Heard) (reported : Bool) (q : OwnHistory) (step : Step) (e : Seen)
+  unheard : (answers : List LastAnswer) (reported : Bool) (q : OwnHistory) (step : Step) (e : Seen)
       → ((c value : ℕ) → member c (controllers_of n) ≡ true → is_answer_on c 0 value e.sight && accepted e ≡ false)
       → Readied n step answers reported q → Readied n step answers reported (e ∷ q)
   unfolding any
@@ -129,7 +128,7 @@ module _ (n : Network) where
   })
 
   -- a step that asks to start claims nothing
-  starting_readied : (answers : List Heard) (reported : Bool) (q : OwnHistory) (phase : Phase) (ask : Ask) → asks_to_start ask ≡ true
+  starting_readied : (answers : List LastAnswer) (reported : Bool) (q : OwnHistory) (phase : Phase) (ask : Ask) → asks_to_start ask ≡ true
       → ReadiedIn n phase ask answers reported q
   starting_readied answers reported q Phase.Off ask a = tt
   starting_readied answers reported q Phase.Rising Ask.Nothing a = tt
@@ -147,19 +146,19 @@ module _ (n : Network) where
   starting_readied answers reported q Phase.Resetting ask a = tt
 
   -- the first down step claims nothing
-  down_readied : (answers : List Heard) (reported : Bool) (q : OwnHistory) (partial : Bool) → Readied n (first_down partial) answers reported q
+  down_readied : (answers : List LastAnswer) (reported : Bool) (q : OwnHistory) (partial : Bool) → Readied n (first_down partial) answers reported q
   down_readied answers reported q partial = rw (first_down_lem partial).falls tt
 
   -- ---- ticks
   -- without a transceiver none is present
-  bare_absent : {A : Type 0} (t : ℕ) → own_outfit n ≡ Bare → n.transceiver ≡ Transceiver.Present t → A
-  bare_absent {A} t b p = by_fit_lem n.partial (sym (ap (λ (x : Transceiver). outfit_of x n.partial) p) ∙ b)
+  bare_absent : {A : Type 0} (t : ℕ) → own_outfit n ≡ Bare → n.transceiver ≡ Some t → A
+  bare_absent {A} t b p = by_fit_lem n.partial (sym (ap (λ (x : Option ℕ). outfit_of x n.partial) p) ∙ b)
     where
-      by_fit_lem : (partial : Bool) → outfit_of (Transceiver.Present t) partial ≡ Bare → A
-      by_fit_lem true e = absurd (let z : ◌≡◌ {A = ℕ} 0 1 = cc in omega arith)
-      by_fit_lem false e = absurd (let z : ◌≡◌ {A = ℕ} 0 1 = cc in omega arith)
+      by_fit_lem : (partial : Bool) → outfit_of (Some t) partial ≡ Bare → A
+      by_fit_lem true e = absurd cc
+      by_fit_lem false e = absurd cc
 
-  module _ (answers : List Heard) (reported : Bool) (q : OwnHistory) (records : List Record) (done reached : Bool) where
+  module _ (answers : List LastAnswer) (reported : Bool) (q : OwnHistory) (records : List Record) (done reached : Bool) where
     -- what a move makes of it, a tick being no answer and no report
     abbrev Moves : Step → Mode → Move → Type 0
     Moves step wanted m =
@@ -200,7 +199,7 @@ module _ (n : Network) where
     own_said : (value : ℕ) → ltb 1 value ≡ false → member c (controllers_of n) ≡ true → eqb 0 mode ≡ true → (q : OwnHistory)
         → said_okay n (heard_state n s c value).answers c ≡ true → said_ok c 0 (seen (an_answer c mode value) 0 [] ∷ q) ≡ true
     unfolding said_ok
-    own_said zero v m z q o = absurd (false≢true (sym (okay_own n s g kept c (heard LastAnswer.Refused) m) ∙ o))
+    own_said zero v m z q o = absurd (false≢true (sym (okay_own n s g kept c LastAnswer.Refused m) ∙ o))
     own_said (suc zero) v m z q o = rw (eqb_same c, z) refl
     own_said (suc (suc value)) v m z q o = absurd (omega (arith, ltb-false 1 (suc (suc value)) v))
 
@@ -215,7 +214,7 @@ module _ (n : Network) where
             (sym (eqb-true d c e)) (own_said ok l m z q) o
         by_test false e =
             said_on (seen (an_answer c mode ok) 0 []) q d (rw e refl) (rw e refl)
-            ∙ before (sym (okay_other n s.answers d c (heard (answer_of (eqb ok 1))) e p m) ∙ o)
+            ∙ before (sym (okay_other n s.answers d c (answer_of (eqb ok 1)) e p m) ∙ o)
 
   -- ---- all that is seen
   module _ (g : InRange n) (h : OwnHistory) (s : State) (kept : Kept n s) (u : suits (own_outfit n) s.step ≡ true)
@@ -326,6 +325,6 @@ module _ (n : Network) where
       record {
         stopped = λ c m.
             let used = slot_in_use n s c g (state_kept n g h r) m in
-            i.stopped c m (every_at is_okay s.answers (seat_of n c) n.count (heard LastAnswer.Pending) okay used.0 used.1);
+            i.stopped c m (every_at is_okay s.answers (seat_of n c) n.count LastAnswer.Pending okay used.0 used.1);
         normal = i.normal;
       }

@@ -22,7 +22,6 @@ use Rattle.network_demands.specs.Own.{finished, decides, state_of, Ran}
 use Rattle.network_demands.proofs.Views.{by_part, by_tick}
 use Rattle.network_demands.proofs.Handed.{is_enter_full, move_says_full}
 use Rattle.network_demands.proofs.Follows.{state_kept, told_follows}
-use Rattle.network_demands.proofs.Turns.{goes_down_lem}
 use Rattle.network_demands.proofs.Way.{starts_not_full}
 use Rattle.network_demands.proofs.Told.{full_mode_number}
 

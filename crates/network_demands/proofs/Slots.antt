@@ -10,9 +10,8 @@ use Rattle.settings.specs.Settings.{controllers_of, member}
 use Rattle.settings.specs.Good.{Fresh, Distinct, InRange}
 use Rattle.settings.proofs.Good.{controllers_counted}
 use Rattle.network.specs.declared.LastAnswer.{LastAnswer}
-use Rattle.network.specs.declared.Heard.{Heard}
 use Rattle.network.specs.declared.State.{State}
-use Rattle.network.specs.State.{heard, blank_answers, heard_of}
+use Rattle.network.specs.State.{blank_answers, heard_of}
 use Rattle.network.specs.Rules.{is_okay}
 use Rattle.network_theorems.specs.Kept.{Kept}
 use Rattle.network_demands.proofs.Handed.{eqb_same}
@@ -92,21 +91,21 @@ pub slot_in_use : (n : Network) (s : State) (c : ℕ) →
     InRange n → Kept n s → member c (controllers_of n) ≡ true → (seat_of n c < n.count) × (seat_of n c < length s.answers)
 slot_in_use n s c g k m =
     let a = controllers_counted n g in
-    let b : length s.answers ≡ 4 = padded_length 4 (heard LastAnswer.Pending) s.answers n.count g.few_controllers k.slots in
+    let b : length s.answers ≡ 4 = padded_length 4 LastAnswer.Pending s.answers n.count g.few_controllers k.slots in
     let f = first_below (λ (x : ℕ). eqb x c) (controllers_of n) m in
     let few = g.few_controllers in
     (omega arith, omega arith)
 
 -- ---- answers
 -- a controller's last answer is ok
-abbrev pub said_okay : Network → List Heard → ℕ → Bool
-said_okay n answers c = is_okay (get_or answers (seat_of n c) (heard LastAnswer.Pending))
+abbrev pub said_okay : Network → List LastAnswer → ℕ → Bool
+said_okay n answers c = is_okay (get_or answers (seat_of n c) LastAnswer.Pending)
 
 -- blank answers say nothing
 pub no_answer_yet : (n : Network) (c : ℕ) → said_okay n blank_answers c ≡ false
 no_answer_yet n c = blank (seat_of n c)
   where
-    blank : (i : ℕ) → is_okay (get_or blank_answers i (heard LastAnswer.Pending)) ≡ false
+    blank : (i : ℕ) → is_okay (get_or blank_answers i LastAnswer.Pending) ≡ false
     blank zero = refl
     blank (suc zero) = refl
     blank (suc (suc zero)) = refl
@@ -114,19 +113,19 @@ no_answer_yet n c = blank (seat_of n c)
     blank (suc (suc (suc (suc i)))) = refl
 
 -- what a controller answers stands in its slot
-pub okay_own : (n : Network) (s : State) → InRange n → Kept n s → (c : ℕ) (answer : Heard) → member c (controllers_of n) ≡ true
+pub okay_own : (n : Network) (s : State) → InRange n → Kept n s → (c : ℕ) (answer : LastAnswer) → member c (controllers_of n) ≡ true
     → said_okay n (set s.answers (seat_of n c) answer) c ≡ is_okay answer
-okay_own n s g k c answer m = ap is_okay (get_or-set_same s.answers (seat_of n c) answer (heard LastAnswer.Pending) (slot_in_use n s c g k m).1)
+okay_own n s g k c answer m = ap is_okay (get_or-set_same s.answers (seat_of n c) answer LastAnswer.Pending (slot_in_use n s c g k m).1)
 
 -- and leaves the other slots alone
-pub okay_other : (n : Network) (answers : List Heard) (c c' : ℕ) (answer : Heard) → eqb c c' ≡ false →
+pub okay_other : (n : Network) (answers : List LastAnswer) (c c' : ℕ) (answer : LastAnswer) → eqb c c' ≡ false →
     member c (controllers_of n) ≡ true → member c' (controllers_of n) ≡ true → said_okay n (set answers (seat_of n c') answer) c ≡ said_okay n answers c
 okay_other n answers c c' answer e m m' =
-    ap is_okay (get_or-set_other answers (seat_of n c') (seat_of n c) answer (heard LastAnswer.Pending) (λ q. eqb-false c c' e (same_slot n c c' m m' q)))
+    ap is_okay (get_or-set_other answers (seat_of n c') (seat_of n c) answer LastAnswer.Pending (λ q. eqb-false c c' e (same_slot n c c' m m' q)))
 
 -- where each controller's slot is ok, all answers are
-each_okay : (e ids : List ℕ) (hs : List Heard) → Fresh e ids → ((c : ℕ) → member c ids ≡ true →
-    is_okay (get_or hs (first (λ (x : ℕ). eqb x c) ids) (heard LastAnswer.Pending)) ≡ true) → every is_okay (take (length ids) hs) ≡ true
+each_okay : (e ids : List ℕ) (hs : List LastAnswer) → Fresh e ids → ((c : ℕ) → member c ids ≡ true →
+    is_okay (get_or hs (first (λ (x : ℕ). eqb x c) ids) LastAnswer.Pending) ≡ true) → every is_okay (take (length ids) hs) ≡ true
 unfolding any first every Fresh
 each_okay e [] hs f o = refl
 each_okay e (x ∷ ids) [] f o = refl
@@ -144,6 +143,6 @@ pub all_okay : (n : Network) (s : State) → InRange n → Distinct (controllers
 all_okay n s g f k =
     both_ways (every is_okay (heard_of n s)) (every (said_okay n s.answers) (controllers_of n))
     (λ e. each_member (said_okay n s.answers) (controllers_of n) (λ c m. let u = slot_in_use n s c g k m in
-    every_at is_okay s.answers (seat_of n c) n.count (heard LastAnswer.Pending) e u.0 u.1))
+    every_at is_okay s.answers (seat_of n c) n.count LastAnswer.Pending e u.0 u.1))
     (λ e. ap (λ (i : ℕ). every is_okay (take i s.answers)) (sym (controllers_counted n g))
     ∙ each_okay [] (controllers_of n) s.answers f (λ c m. every_member (said_okay n s.answers) c (controllers_of n) e m))

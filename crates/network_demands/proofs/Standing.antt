@@ -5,7 +5,7 @@ use Rattle.lists.proofs.Any.{and_both}
 use Rattle.records.specs.declared.Mode.{Mode}
 use Rattle.records.specs.declared.Record.{Record}
 use Rattle.records.specs.Records.{mode_number}
-use Rattle.settings.specs.declared.Transceiver.{Transceiver}
+use Rattle.std.specs.Prelude.{Option, None, Some}
 use Rattle.settings.specs.declared.Network.{Network}
 use Rattle.settings.specs.Settings.{controllers_of, member}
 use Rattle.settings.specs.Good.{InRange}
@@ -48,12 +48,12 @@ pub record StandsIn (n : Network) (step : Step) (h : OwnHistory) : Type 0 where
 first_suits : (n : Network) → InRange n → suits (own_outfit n) (first_down n.partial) ≡ true
 first_suits n g = by_fit_lem n.transceiver n.partial g.partial
   where
-    by_fit_lem : (t : Transceiver) (partial : Bool) → (partial ≡ true → t ≡ Transceiver.Absent → ⊥)
+    by_fit_lem : (t : Option ℕ) (partial : Bool) → (partial ≡ true → t ≡ None → ⊥)
         → suits (outfit_of t partial) (first_down partial) ≡ true
-    by_fit_lem Transceiver.Absent true f = absurd (f refl refl)
-    by_fit_lem Transceiver.Absent false f = refl
-    by_fit_lem (Transceiver.Present id) true f = refl
-    by_fit_lem (Transceiver.Present id) false f = refl
+    by_fit_lem None true f = absurd (f refl refl)
+    by_fit_lem None false f = refl
+    by_fit_lem (Some id) true f = refl
+    by_fit_lem (Some id) false f = refl
 
 -- it is in no group
 down_groups : (b : Bool) → (has_rested (first_down b) ≡ false) × (is_on (first_down b) ≡ false) × (has_begun (first_down b) ≡ false)

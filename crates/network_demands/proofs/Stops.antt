@@ -17,10 +17,9 @@ use Rattle.steps.specs.Steps.{step_number, phase_of, asks_for, timer_of, is_up, 
 use Rattle.steps.specs.After.{first_down, step_after}
 use Rattle.steps.proofs.Laws.{InPhase, in_phase}
 use Rattle.network.specs.declared.LastAnswer.{LastAnswer}
-use Rattle.network.specs.declared.Heard.{Heard}
 use Rattle.network.specs.declared.Report.{Report}
 use Rattle.network.specs.declared.State.{State}
-use Rattle.network.specs.State.{heard, blank_answers, started}
+use Rattle.network.specs.State.{blank_answers, started}
 use Rattle.network.specs.Rules.{is_okay}
 use Rattle.network.specs.Moving.{keeps_answers, after_move}
 use Rattle.network.specs.Answers.{awaits, takes_report}
@@ -45,7 +44,7 @@ use Rattle.network_demands.proofs.Readied.{said_on, heard_stopped}
 
 -- ---- in step 15, q being what follows the last setback
 -- a controller whose last answer here is ok said so on stopped
-abbrev Stopping : Network → Step → List Heard → OwnHistory → Type 0
+abbrev Stopping : Network → Step → List LastAnswer → OwnHistory → Type 0
 Stopping n step answers q =
     step ≡ ResetStopped → (c : ℕ) → member c (controllers_of n) ≡ true → said_okay n answers c ≡ true → said_ok c 0 q ≡ true
 
@@ -57,7 +56,7 @@ down_not step d f = absurd (true≢false (sym (ap has_rested f) ∙ ap rested_ph
 other : {A : Type 0} (step : Step) (number : ℕ) → step_number step ≡ number → (number ≡ 15 → ⊥) → step ≡ ResetStopped → A
 other step number e k f = absurd (k (sym e ∙ ap step_number f))
 
-module _ (n : Network) (answers : List Heard) (q : OwnHistory) (records : List Record) (done reached : Bool) where
+module _ (n : Network) (answers : List LastAnswer) (q : OwnHistory) (records : List Record) (done reached : Bool) where
   -- what a move makes of it
   abbrev Moves : Step → Mode → Move → Type 0
   Moves step wanted m = Stopping n step answers q
@@ -136,7 +135,7 @@ stopping_at n g (e ∷ h) r =
 
 -- ---- the first request to start since a stall
 -- where the last setback was a stall and a controller was not asked to start since, the network is stopping
-unasked_stopping : (n : Network) (way : Way) (asked : Bool) (answers : List Heard) (count d w : ℕ) (q : OwnHistory)
+unasked_stopping : (n : Network) (way : Way) (asked : Bool) (answers : List LastAnswer) (count d w : ℕ) (q : OwnHistory)
     → Stands n way asked answers count q d w true → (c : ℕ) → member c (controllers_of n) ≡ true → asked_to_start c q ≡ false → way ≡ stopping
 unasked_stopping n away asked answers count d w q i c m a = absurd (true≢false i.1)
 unasked_stopping n stopping asked answers count d w q i c m a = refl
@@ -194,4 +193,4 @@ module _ (n : Network) (g : InRange n) (f : Distinct (controllers_of n)) (h : Ow
   done_stopped e done c m =
       let okay = done_answered n s ResetStopped e done in
       let used = slot_in_use n s c g (state_kept n g h r) m in
-      stopping_at n g h r e c m (every_at is_okay s.answers (seat_of n c) n.count (heard LastAnswer.Pending) okay used.0 used.1)
+      stopping_at n g h r e c m (every_at is_okay s.answers (seat_of n c) n.count LastAnswer.Pending okay used.0 used.1)

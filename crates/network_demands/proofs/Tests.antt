@@ -1,6 +1,7 @@
 -- What demand 3 and the promises need of a network's three tests: that its step is done, that its time is reached, and that it takes a stall. Where a
 -- box has other tests, that which is false of them is refused here.
 use Rattle.lists.proofs.Basics.{ℕ, ◌+◌, ◌≡◌, refl, sym, ap, ◌∙◌, Bool, true, false, cond, false≢true, leb}
+use Rattle.std.specs.Prelude.{None, Some}
 use Rattle.lists.specs.Lists.{every}
 use Rattle.records.specs.declared.ControllerMode.{ControllerMode}
 use Rattle.settings.specs.declared.Network.{Network}
@@ -29,7 +30,7 @@ once_asked true x e = e
 once_asked false x e = absurd (false≢true e)
 
 -- a stall is taken just in the full steps
-pub stalls_just : (step : Step) → stalls step ≡ cond (is_full_step step) Hit.Reset Hit.NotTaken
+pub stalls_just : (step : Step) → stalls step ≡ cond (is_full_step step) (Some Hit.Reset) None
 unfolding stall_of
 stalls_just step = refl
 

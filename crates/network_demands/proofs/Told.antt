@@ -22,7 +22,7 @@ use Rattle.steps.specs.Steps.{phase_of, asks_for, timer_of, is_up, is_full_step,
 use Rattle.steps.specs.Decision.{risen, decision}
 use Rattle.steps.specs.After.{step_after}
 use Rattle.handing.specs.Handing.{requests, move_records, recovery, reset}
-use Rattle.network.specs.declared.Heard.{Heard}
+use Rattle.network.specs.declared.LastAnswer.{LastAnswer}
 use Rattle.network.specs.declared.State.{State}
 use Rattle.network.specs.State.{blank_answers, heard_of, started}
 use Rattle.network.specs.Rules.{is_okay, is_refusal, is_long, delay_of, outfit_of}
@@ -59,7 +59,7 @@ unfolding delay_of
 delay_range n g count = split (λ (x : ℕ). (1 ≤ x) × (x < 65536)) (is_long n.relation n.threshold count) (λ _. g.long) (λ _. g.short)
 
 -- q is what followed the last setback before the tick
-module _ (n : Network) (g : InRange n) (told : Mode) (asked : Bool) (answers : List Heard) (count : ℕ) (q : OwnHistory) (d : ℕ) (x : Bool) where
+module _ (n : Network) (g : InRange n) (told : Mode) (asked : Bool) (answers : List LastAnswer) (count : ℕ) (q : OwnHistory) (d : ℕ) (x : Bool) where
   abbrev ticking : List Record → Seen
   ticking records = seen a_tick 0 records
 
@@ -356,7 +356,7 @@ stands_at n g f (e ∷ h) r =
 
 -- ---- exactly when full is told
 -- there, full is due; elsewhere not
-due_there : (n : Network) (way : Way) (asked : Bool) (answers : List Heard) (count d w : ℕ) (s : OwnHistory) (x : Bool)
+due_there : (n : Network) (way : Way) (asked : Bool) (answers : List LastAnswer) (count d w : ℕ) (s : OwnHistory) (x : Bool)
     → Stands n way asked answers count s d w x → is_there way ≡ (ltb 0 (first_running n s) && (leb (first_running n s + d) (tally ticked s) && eqb 2 w))
 due_there n away asked answers count d w s x i = rw i.0.none refl
 due_there n stopping asked answers count d w s x i = rw i.0.none refl
@@ -376,7 +376,7 @@ soon_enough : (n : Network) (s : OwnHistory) (x : Bool) → Running n s x → lt
 soon_enough n s x i = lt-ltb 0 (first_running n s) (omega (arith, later n s x i)) ∙ sym (le-leb (soonest x) (first_running n s) i.soon)
 
 -- a tick before which all run is never the first since the setback, and after a stall never the second
-not_sooner : (n : Network) (way : Way) (asked : Bool) (answers : List Heard) (count d w : ℕ) (s : OwnHistory) (x : Bool)
+not_sooner : (n : Network) (way : Way) (asked : Bool) (answers : List LastAnswer) (count d w : ℕ) (s : OwnHistory) (x : Bool)
     → Stands n way asked answers count s d w x → ltb 0 (first_running n s) ≡ leb (soonest x) (first_running n s)
 not_sooner n away asked answers count d w s x i = sooner_not n s x i.0.none
 not_sooner n stopping asked answers count d w s x i = sooner_not n s x i.0.none
@@ -386,7 +386,7 @@ not_sooner n there asked answers count d w s x i = soon_enough n s x i.0
 not_sooner n silenced asked answers count d w s x i = soon_enough n s x i.0
 
 -- there, all run
-there_running : (n : Network) (way : Way) (asked : Bool) (answers : List Heard) (count d w : ℕ) (s : OwnHistory) (x : Bool)
+there_running : (n : Network) (way : Way) (asked : Bool) (answers : List LastAnswer) (count d w : ℕ) (s : OwnHistory) (x : Bool)
     → Stands n way asked answers count s d w x → is_there way ≡ true → (c : ℕ) → member c (controllers_of n) ≡ true → runs c s ≡ true
 there_running n away asked answers count d w s x i e = absurd (false≢true e)
 there_running n stopping asked answers count d w s x i e = absurd (false≢true e)

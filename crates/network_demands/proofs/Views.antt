@@ -4,6 +4,7 @@ use Rattle.lists.proofs.Basics.{false≢true}
 use Rattle.lists.proofs.Basics.{◌||◌, or-false, or-true, and-false, true≢false, eqb, ltb, set}
 use Rattle.lists.proofs.Any.{and_both}
 use Rattle.lists.proofs.Tests.{split}
+use Rattle.std.specs.Prelude.{Option}
 use Rattle.lists.specs.Lists.{any, first, padded}
 use Rattle.records.specs.declared.ControllerMode.{ControllerMode}
 use Rattle.records.specs.declared.Mode.{Mode}
@@ -23,7 +24,7 @@ use Rattle.network.specs.declared.Part.{Part}
 use Rattle.network.specs.declared.Refusal.{Refusal}
 use Rattle.network.specs.declared.Report.{Report}
 use Rattle.network.specs.declared.State.{State}
-use Rattle.network.specs.State.{heard, heard_of, wants}
+use Rattle.network.specs.State.{heard_of, wants}
 use Rattle.network.specs.Rules.{is_refusal, outfit_of}
 use Rattle.network.specs.Answers.{awaits, takes_report, answer_of, with_answers, after_answer, after_report}
 use Rattle.network.specs.Moving.{after_move}
@@ -55,7 +56,7 @@ seat_of n c = first (λ (x : ℕ). eqb x c) (controllers_of n)
 
 -- the record after an answer that is taken: the slot of the controller holds it
 abbrev pub heard_state : Network → State → ℕ → ℕ → State
-heard_state n s c ok = with_answers s (set s.answers (seat_of n c) (heard (answer_of (eqb ok 1))))
+heard_state n s c ok = with_answers s (set s.answers (seat_of n c) (answer_of (eqb ok 1)))
 
 -- ---- the seven effects
 -- only the wanted mode and the report can change
@@ -229,7 +230,7 @@ module _ (n : Network) (s : State) (P : Seen → State → Type 0) (by : ByPart 
       → P (seen a_stall number (hit_records n (stalls s.step))) (hit_after s (stalls s.step))
   unfolding hit_records
   stalling number =
-      let Q : Hit → Type 0 = λ hit. number ≡ reply_number (hit_reply hit) → P (seen a_stall number (hit_records n hit)) (hit_after s hit) in
+      let Q : Option Hit → Type 0 = λ hit. number ≡ reply_number (hit_reply hit) → P (seen a_stall number (hit_records n hit)) (hit_after s hit) in
       subst Q (sym (stalls_just s.step)) (split Q (is_full_step s.step)
       (λ f e. subst (λ (k : ℕ). P (seen a_stall k (reset n.handle)) (reset_after s)) (sym e) (by.resets f))
       (λ f e. quiet a_stall number s.reported refl refl (refuses Refusal.NotTaken number e) (λ c mode value. refl)
@@ -276,7 +277,7 @@ tick_after_kept n s k =
 
 -- a record in an up step that asks, with nothing asked or kept as answered: after a bus-off while up, and after a stall
 struck_kept : (n : Network) (t : State) → is_full_mode t.told ≡ is_full_step t.step → is_up t.step ≡ true → is_ask (asks_for t.step) ≡ true
-    → t.asked ≡ false → t.reported ≡ false → t.answers ≡ padded most_controllers (heard LastAnswer.Pending) (heard_of n t) → Kept n t
+    → t.asked ≡ false → t.reported ≡ false → t.answers ≡ padded most_controllers LastAnswer.Pending (heard_of n t) → Kept n t
 struck_kept n t told up asks asked reported slots = record {
   told = told;
   wanted = λ f. up;

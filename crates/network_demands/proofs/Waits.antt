@@ -15,7 +15,7 @@ use Rattle.steps.specs.declared.Move.{Move}
 use Rattle.steps.specs.Steps.{up_phase, is_asking}
 use Rattle.steps.specs.Decision.{risen}
 use Rattle.steps.specs.After.{step_after}
-use Rattle.network.specs.declared.Heard.{Heard}
+use Rattle.network.specs.declared.LastAnswer.{LastAnswer}
 use Rattle.network.specs.declared.State.{State}
 use Rattle.network.specs.Moving.{after_move}
 use Rattle.network.specs.Parts.{a_tick}
@@ -102,7 +102,7 @@ module _ (n : Network) (g : InRange n) (h : OwnHistory) (r : Ran n h) where
   passed (suc d) q l = rw (ne_eqb (first_running n q) (tally ticked q) (λ e. omega (arith, l, e))) (sym (and-false (ltb 0 (suc d))))
 
   -- q being what follows the last setback, with some tick, d the delay owed since
-  begins_by : (way : Way) (asked : Bool) (answers : List Heard) (count d w : ℕ) (q : OwnHistory) (x : Bool) → 0 < tally ticked q
+  begins_by : (way : Way) (asked : Bool) (answers : List LastAnswer) (count d w : ℕ) (q : OwnHistory) (x : Bool) → 0 < tally ticked q
       → Stands n way asked answers count q d w x → is_beginning way ≡ ltb 0 d && eqb (first_running n q) (tally ticked q)
   begins_by away asked answers count d w q x l i = rw i.0.delay refl
   begins_by stopping asked answers count d w q x l i = rw i.0.delay refl

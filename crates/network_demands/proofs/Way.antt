@@ -13,10 +13,10 @@ use Rattle.steps.specs.declared.Timer.{Timer}
 use Rattle.steps.specs.declared.Ask.{Ask}
 use Rattle.steps.specs.Steps.{phase_of, asks_for, timer_of, up_phase, full_phase, is_up, is_full_step, asks_to_start}
 use Rattle.steps.specs.After.{first_down}
-use Rattle.network.specs.declared.Heard.{Heard}
+use Rattle.network.specs.declared.LastAnswer.{LastAnswer}
 use Rattle.network.specs.declared.Report.{Report}
 use Rattle.network.specs.declared.State.{State}
-use Rattle.network.specs.State.{heard, blank_answers}
+use Rattle.network.specs.State.{blank_answers}
 use Rattle.network.specs.Rules.{is_okay, delay_of}
 use Rattle.network.specs.Answers.{awaits, takes_report, answer_of}
 use Rattle.network.specs.Parts.{an_answer}
@@ -185,7 +185,7 @@ abbrev pub soonest : Bool → ℕ
 soonest x = cond x 3 2
 
 -- starting: asked exactly since the first tick of s; each controller was asked with it, and runs exactly if its last answer is ok
-pub record Starts (n : Network) (cause : Cause) (asked : Bool) (answers : List Heard) (count : ℕ) (s : OwnHistory) (d : ℕ) (x : Bool) : Type 0 where
+pub record Starts (n : Network) (cause : Cause) (asked : Bool) (answers : List LastAnswer) (count : ℕ) (s : OwnHistory) (d : ℕ) (x : Bool) : Type 0 where
   pub none : first_running n s ≡ 0
   pub delay : d ≡ delay_by n count cause
   pub why : x ≡ is_stall_cause cause
@@ -211,7 +211,7 @@ pub record Away (n : Network) (s : OwnHistory) (d : ℕ) : Type 0 where
   pub unasked : (c : ℕ) → member c (controllers_of n) ≡ true → asked_to_start c s ≡ false
 
 -- by how far the network is on its way
-abbrev pub Stands : Network → Way → Bool → List Heard → ℕ → OwnHistory → ℕ → ℕ → Bool → Type 0
+abbrev pub Stands : Network → Way → Bool → List LastAnswer → ℕ → OwnHistory → ℕ → ℕ → Bool → Type 0
 Stands n away asked answers count s d w x = Away n s d × (x ≡ false)
 Stands n stopping asked answers count s d w x = Away n s d × (x ≡ true) × (asked ≡ true → 0 < tally ticked s)
 Stands n (starting cause) asked answers count s d w x = Starts n cause asked answers count s d x
@@ -220,7 +220,7 @@ Stands n there asked answers count s d w x = Running n s x × (first_running n s
 Stands n silenced asked answers count s d w x = Running n s x × (first_running n s + d ≤ tally ticked s) × (eqb 2 w ≡ false)
 
 -- only a step that asks the controllers to start looks at their answers
-answers_aside : (n : Network) (phase : Phase) (timer : Timer) (asked : Bool) (answers answers' : List Heard) (count : ℕ) (s : OwnHistory) (d w : ℕ)
+answers_aside : (n : Network) (phase : Phase) (timer : Timer) (asked : Bool) (answers answers' : List LastAnswer) (count : ℕ) (s : OwnHistory) (d w : ℕ)
     (x : Bool) → Stands n (way_in phase timer) asked answers count s d w x → Stands n (way_in phase timer) asked answers' count s d w x
 answers_aside n Phase.Off timer asked answers answers' count s d w x i = i
 answers_aside n Phase.Rising timer asked answers answers' count s d w x i = i
@@ -253,7 +253,7 @@ module _ (n : Network) (e : Seen) (s : OwnHistory) (t : ticked e ≡ false) (a :
   away_same : (d : ℕ) → Away n s d → Away n (e ∷ s) d
   away_same d i = record { none = first_same ∙ i.none; delay = i.delay; unasked = λ c m. a c ∙ i.unasked c m }
 
-  pub stands_same : (way : Way) (asked : Bool) (answers : List Heard) (count d w : ℕ) (x : Bool)
+  pub stands_same : (way : Way) (asked : Bool) (answers : List LastAnswer) (count d w : ℕ) (x : Bool)
       → Stands n way asked answers count s d w x → Stands n way asked answers count (e ∷ s) d w x
   stands_same away asked answers count d w x i = (away_same d i.0, i.1)
   stands_same stopping asked answers count d w x i = (away_same d i.0, i.1, λ z. rw ticks_same (i.2 z))
@@ -302,7 +302,7 @@ module _ (n : Network) (g : InRange n) (s : State) (k : Kept n s) (c mode ok : �
 
   -- an answer to the request to start says whether its controller runs, and nothing of the others
   own_answer : (value : ℕ) → ltb 1 value ≡ false → eqb 1 mode ≡ true → asked_to_start c q ≡ true
-      → runs c (seen (an_answer c mode value) 0 [] ∷ q) ≡ is_okay (heard (answer_of (eqb value 1)))
+      → runs c (seen (an_answer c mode value) 0 [] ∷ q) ≡ is_okay (answer_of (eqb value 1))
   unfolding runs
   own_answer zero v e a = rw (eqb_same c, e) refl
   own_answer (suc zero) v e a = rw (eqb_same c, e) a
@@ -330,8 +330,8 @@ module _ (n : Network) (g : InRange n) (s : State) (k : Kept n s) (c mode ok : �
           → runs x (answering ∷ q) ≡ said_okay n (heard_state n s c ok).answers x
       by_test x p true f =
           subst (λ (x : ℕ). runs x (answering ∷ q) ≡ said_okay n (heard_state n s c ok).answers x) (sym (eqb-true x c f))
-          (own_answer ok l e (i.requested c m ∙ a) ∙ sym (okay_own n s g k c (heard (answer_of (eqb ok 1))) m))
-      by_test x p false f = other_answer x f ∙ i.answered x p ∙ sym (okay_other n s.answers x c (heard (answer_of (eqb ok 1))) f p m)
+          (own_answer ok l e (i.requested c m ∙ a) ∙ sym (okay_own n s g k c (answer_of (eqb ok 1)) m))
+      by_test x p false f = other_answer x f ∙ i.answered x p ∙ sym (okay_other n s.answers x c (answer_of (eqb ok 1)) f p m)
 
   pub heard_stands : takes_report s (Report.Controller mode) ≡ true → (d w : ℕ) (x : Bool)
       → Stands n (way_of s.step) s.asked s.answers s.count q d w x

@@ -1,16 +1,15 @@
 -- How long a network takes until it is said to be full, and how many records are handed out for it until then: from rest, from the start, and from
 -- anywhere. As in demand 3 all of it is read off calls, answers and records. The history is s after h, the latest entry first.
-use Rattle.std.specs.Prelude.{ℕ, suc, ◌+◌, ◌*◌, ◌≤◌, max, ◌≡◌, [], ◌∷◌, ◌++◌, Bool, true, not, ◌&&◌, cond, leb, eqb, length}
-use Rattle.settings.specs.declared.Transceiver.{Transceiver}
+use Rattle.std.specs.Prelude.{ℕ, suc, ◌+◌, ◌*◌, ◌≤◌, max, ◌≡◌, [], ◌∷◌, ◌++◌, Bool, true, not, ◌&&◌, cond, leb, eqb, length, Option, None, Some}
 use Rattle.settings.specs.declared.Network.{Network}
 use Rattle.network_demands.specs.Words.{Seen, OwnHistory, hands, tally, ticked, told, rested, called_up, exceeds, GoodTicks}
 
 -- ---- the figures
 
 -- one of three: without a transceiver, with one, and with partial networking
-abbrev pub by_fit : Transceiver → Bool → ℕ → ℕ → ℕ → ℕ
-by_fit Transceiver.Absent isPartial bare fitted partial = bare
-by_fit (Transceiver.Present id) isPartial bare fitted partial = cond isPartial partial fitted
+abbrev pub by_fit : Option ℕ → Bool → ℕ → ℕ → ℕ → ℕ
+by_fit None isPartial bare fitted partial = bare
+by_fit (Some id) isPartial bare fitted partial = cond isPartial partial fitted
 
 -- by the settings of the network
 abbrev pub by_outfit : Network → ℕ → ℕ → ℕ → ℕ

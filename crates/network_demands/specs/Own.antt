@@ -1,6 +1,6 @@
 -- One network's part in what it sees, as a box that follows the rules plays it. What a wrong box gets wrong has a name of its own here, so that such
 -- a box is an edit of one line; the rules themselves stand in `network`.
-use Rattle.std.specs.Prelude.{◌≡◌, List, [], ◌∷◌, Bool, true, false, cond}
+use Rattle.std.specs.Prelude.{◌≡◌, List, [], ◌∷◌, Bool, true, false, cond, Option, None, Some}
 use Rattle.lists.specs.Lists.{any}
 use Rattle.records.specs.declared.Record.{Record}
 use Rattle.settings.specs.declared.Network.{Network}
@@ -59,7 +59,7 @@ abbrev pub restarted : State → State
 restarted s = after_hit s Hit.Restart
 
 -- what a stall does in a step
-abbrev pub stalls : Step → Hit
+abbrev pub stalls : Step → Option Hit
 stalls step = stall_of step
 
 -- the record after a stall that is taken
@@ -67,11 +67,11 @@ abbrev pub reset_after : State → State
 reset_after s = after_hit s Hit.Reset
 
 -- by what the step makes of it
-abbrev pub hit_after : State → Hit → State
-hit_after s Hit.Recover = recovered s
-hit_after s Hit.Restart = restarted s
-hit_after s Hit.Reset = reset_after s
-hit_after s Hit.NotTaken = s
+abbrev pub hit_after : State → Option Hit → State
+hit_after s (Some Hit.Recover) = recovered s
+hit_after s (Some Hit.Restart) = restarted s
+hit_after s (Some Hit.Reset) = reset_after s
+hit_after s None = s
 
 -- ---- the part
 

@@ -1,11 +1,10 @@
 -- What the box promises of one network, entry by entry: e follows h, both as the network sees them. Which bus-offs, stalls, answers and requests are
 -- taken, what is handed out on them, and what a tick hands out. All of it is read off calls, answers and records; nothing looks into the network's
 -- record and nothing cites a rule of its steps.
-use Rattle.std.specs.Prelude.{ℕ, ◌+◌, ◌≤◌, ◌≡◌, List, [], ◌∷◌, ◌++◌, Bool, true, false, ◌&&◌, ◌||◌, cond, not, leb, ltb, eqb, length, get_or}
+use Rattle.std.specs.Prelude.{ℕ, ◌+◌, ◌≤◌, ◌≡◌, List, [], ◌∷◌, ◌++◌, Bool, true, false, ◌&&◌, ◌||◌, cond, not, leb, ltb, eqb, length, get_or, Some}
 use Rattle.lists.specs.Lists.{any}
 use Rattle.records.specs.declared.Record.{Record}
 use Rattle.records.specs.Records.{handed}
-use Rattle.settings.specs.declared.Transceiver.{Transceiver}
 use Rattle.settings.specs.declared.Network.{Network}
 use Rattle.settings.specs.Settings.{controllers_of, member}
 use Rattle.network.specs.declared.Report.{Report}
@@ -41,10 +40,10 @@ pub record Stalls (n : Network) (e : Seen) (h : OwnHistory) : Type 0 where
 pub record Answers (n : Network) (e : Seen) (h : OwnHistory) : Type 0 where
   pub controllers : (c mode ok : ℕ) → e.sight ≡ an_answer c mode ok → member c (controllers_of n) ≡ true
       → accepted e ≡ leb mode 2 && (leb ok 1 && awaited 1 c mode h)
-  pub transceivers : (t mode : ℕ) → e.sight ≡ a_report (Report.Transceiver mode) → n.transceiver ≡ Transceiver.Present t
+  pub transceivers : (t mode : ℕ) → e.sight ≡ a_report (Report.Transceiver mode) → n.transceiver ≡ Some t
       → accepted e ≡ leb mode 2 && awaited 2 t mode h
-  pub clears : (t : ℕ) → e.sight ≡ a_report Report.Cleared → n.transceiver ≡ Transceiver.Present t → accepted e ≡ awaited 4 t 0 h
-  pub checks : (t : ℕ) → e.sight ≡ a_report Report.Checked → n.transceiver ≡ Transceiver.Present t → accepted e ≡ awaited 5 t 0 h
+  pub clears : (t : ℕ) → e.sight ≡ a_report Report.Cleared → n.transceiver ≡ Some t → accepted e ≡ awaited 4 t 0 h
+  pub checks : (t : ℕ) → e.sight ≡ a_report Report.Checked → n.transceiver ≡ Some t → accepted e ≡ awaited 5 t 0 h
 
 -- ---- requests
 
@@ -124,7 +123,7 @@ pub record StaysDown (n : Network) (e : Seen) : Type 0 where
 -- since no was last told, each controller's last answer on stopped is ok, and a transceiver was reported normal
 pub record Prepared (n : Network) (h : OwnHistory) : Type 0 where
   pub stopped : (c : ℕ) → member c (controllers_of n) ≡ true → said_ok c 0 (since_rest n h) ≡ true
-  pub normal : (t : ℕ) → n.transceiver ≡ Transceiver.Present t → any reported_normal (since_rest n h) ≡ true
+  pub normal : (t : ℕ) → n.transceiver ≡ Some t → any reported_normal (since_rest n h) ≡ true
 
 -- since the last setback each controller's last answer on stopped is ok
 abbrev pub Stopped : Network → OwnHistory → Type 0

@@ -1,5 +1,6 @@
 -- What a network makes of a bus-off, in every step.
-use Rattle.lists.proofs.Basics.{ℕ, ◌≡◌, refl, ◌∙◌}
+use Rattle.lists.proofs.Basics.{ℕ, ◌≡◌, refl, ap, ◌∙◌}
+use Rattle.std.specs.Prelude.{Option, None, Some}
 use Rattle.settings.specs.declared.Network.{Network}
 use Rattle.steps.specs.declared.Step.{Step}
 use Rattle.steps.specs.declared.Step.TheVariants.{NoCommunication, TransceiverNormal, ControllersStopped, ControllersStarted}
@@ -13,20 +14,21 @@ use Rattle.network.specs.Replies.{reply_number}
 use Rattle.network.specs.BusOff.{counted_in, hit_of, made_anew, after_hit}
 use Rattle.network.specs.Parts.{a_bus_off, hit_reply, hit_part, part_of}
 use Rattle.network_theorems.specs.BusOffs.{bus_off_number, count_at}
+use Rattle.network_theorems.proofs.Parts.{hit_replies}
 
 -- the count after what a step makes of it
-abbrev count_by : Hit → Step → ℕ → ℕ
-count_by Hit.Recover step count = counted_in step count
-count_by Hit.Restart step count = count
-count_by Hit.Reset step count = count
-count_by Hit.NotTaken step count = count
+abbrev count_by : Option Hit → Step → ℕ → ℕ
+count_by (Some Hit.Recover) step count = counted_in step count
+count_by (Some Hit.Restart) step count = count
+count_by (Some Hit.Reset) step count = count
+count_by None step count = count
 
-count_by_lem : (s : State) (hit : Hit) → (after_hit s hit).count ≡ count_by hit s.step s.count
-unfolding after_hit made_anew
-count_by_lem s Hit.Recover = refl
-count_by_lem s Hit.Restart = refl
-count_by_lem s Hit.Reset = refl
-count_by_lem s Hit.NotTaken = refl
+count_by_lem : (s : State) (hit : Option Hit) → (hit_part s hit).state.count ≡ count_by hit s.step s.count
+unfolding hit_part after_hit made_anew
+count_by_lem s (Some Hit.Recover) = refl
+count_by_lem s (Some Hit.Restart) = refl
+count_by_lem s (Some Hit.Reset) = refl
+count_by_lem s None = refl
 
 -- B2, B5, B6: step by step
 step_bus_off : (step : Step) (count : ℕ)
@@ -53,7 +55,7 @@ step_bus_off ResetStarted count = (refl, refl)
 -- a bus-off has the answer that the number of the step says, and the count after it is the one that it says
 pub bus_off_by_step : (n : Network) (s : State) → (reply_number (part_of n s a_bus_off).reply ≡ bus_off_number (step_number s.step))
     × ((part_of n s a_bus_off).state.count ≡ count_at (step_number s.step) s.count)
-unfolding part_of hit_part
+unfolding part_of
 bus_off_by_step n s =
     let by = step_bus_off s.step s.count in
-    (by.0, count_by_lem s (hit_of s.step) ∙ by.1)
+    (ap reply_number (hit_replies s (hit_of s.step)) ∙ by.0, count_by_lem s (hit_of s.step) ∙ by.1)

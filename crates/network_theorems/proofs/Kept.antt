@@ -2,6 +2,7 @@
 use Rattle.lists.proofs.Basics.{ℕ, zero, suc, ◌<◌, arith, ◌≡◌, refl, sym, ap, ◌∙◌, List, Bool, true, false, cond, false≢true, true≢false, eqb}
 use Rattle.lists.proofs.Basics.{length, take, set}
 use lib.Seq.{take-nil}
+use Rattle.std.specs.Prelude.{Option, None, Some}
 use Rattle.lists.specs.Lists.{first, padded}
 use Rattle.lists.proofs.Any.{first_below}
 use Rattle.lists.proofs.Parts.{padded_count, padded_store}
@@ -18,21 +19,21 @@ use Rattle.steps.specs.Steps.{full_phase, asks_for, is_up, is_full_step, is_ask,
 use Rattle.steps.specs.Decision.{decision}
 use Rattle.steps.specs.After.{first_down, step_after}
 use Rattle.network.specs.declared.LastAnswer.{LastAnswer}
-use Rattle.network.specs.declared.Heard.{Heard}
 use Rattle.network.specs.declared.Hit.{Hit}
 use Rattle.network.specs.declared.Report.{Report}
 use Rattle.network.specs.declared.State.{State}
-use Rattle.network.specs.State.{heard, blank_answers, heard_of, started, wants}
+use Rattle.network.specs.State.{blank_answers, heard_of, started, wants}
 use Rattle.network.specs.Rules.{move_of}
 use Rattle.network.specs.Moving.{lowered, told_after, asks_after, keeps_answers, after_move, tick_state}
 use Rattle.network.specs.BusOff.{made_anew, after_hit}
 use Rattle.network.specs.Answers.{awaits, takes_report, answer_of, with_answers, after_answer, after_report}
+use Rattle.network.specs.Parts.{hit_part}
 use Rattle.network_theorems.specs.Kept.{is_full_mode, Kept}
 use Rattle.network_theorems.proofs.Moves.{ByMove, by_move}
 
 -- ---- blank answers
 -- whatever the count, blank answers are their first ones, filled up
-blank_slots : (k : ℕ) → blank_answers ≡ padded 4 (heard LastAnswer.Pending) (take k blank_answers)
+blank_slots : (k : ℕ) → blank_answers ≡ padded 4 LastAnswer.Pending (take k blank_answers)
 blank_slots zero = refl
 blank_slots (suc zero) = refl
 blank_slots (suc (suc zero)) = refl
@@ -74,7 +75,7 @@ WantedFits step wanted m =
     (partial : Bool) → (wanted ≡ Mode.Silent → is_up step ≡ true) → wanted ≡ Mode.Silent → is_up (step_after m step partial) ≡ true
 
 not_silent : {A : Type 0} (f : Mode.No ≡ Mode.Silent) → A
-not_silent f = absurd (let z : ◌≡◌ {A = ℕ} 0 1 = cc in omega arith)
+not_silent f = absurd cc
 
 wanted_fits : (done : Bool) → ByMove done WantedFits
 wanted_fits done = record {
@@ -95,7 +96,7 @@ wanted_fits done = record {
 -- a move leaves the step as it is, enters an asking step, or forgets and has not asked
 abbrev FormFits : Step → Mode → Move → Type 0
 FormFits step wanted m =
-    (partial asked reported : Bool) (answers : List Heard)
+    (partial asked reported : Bool) (answers : List LastAnswer)
     → (is_asking step ≡ false → (asked ≡ false) × (answers ≡ blank_answers) × (reported ≡ false))
     → is_asking (step_after m step partial) ≡ false
     → (asks_after m asked ≡ false) × (cond (keeps_answers m) answers blank_answers ≡ blank_answers) × (cond (keeps_answers m) reported false ≡ false)
@@ -119,8 +120,8 @@ form_fits done = record {
   enters = λ step next wanted a u g partial asked reported answers e f. absurd (true≢false (sym a ∙ f));
 }
 
-slots_kept : (k : ℕ) (b : Bool) (answers : List Heard) → answers ≡ padded 4 (heard LastAnswer.Pending) (take k answers)
-    → cond b answers blank_answers ≡ padded 4 (heard LastAnswer.Pending) (take k (cond b answers blank_answers))
+slots_kept : (k : ℕ) (b : Bool) (answers : List LastAnswer) → answers ≡ padded 4 LastAnswer.Pending (take k answers)
+    → cond b answers blank_answers ≡ padded 4 LastAnswer.Pending (take k (cond b answers blank_answers))
 slots_kept k true answers e = e
 slots_kept k false answers e = blank_slots k
 
@@ -194,7 +195,12 @@ hit_kept n s Hit.Reset k = record {
   reported = λ f. refl;
   slots = blank_slots n.count;
 }
-hit_kept n s Hit.NotTaken k = k
+
+-- and what is not taken leaves the record as it is
+pub trouble_kept : (n : Network) (s : State) (hit : Option Hit) → Kept n s → Kept n (hit_part s hit).state
+unfolding hit_part
+trouble_kept n s (Some hit) k = hit_kept n s hit k
+trouble_kept n s None k = k
 
 -- what is taken is taken in an asking step
 awaited_asks : (ask : Ask) (report : Report) → awaits ask report ≡ true → is_ask ask ≡ true
@@ -230,13 +236,13 @@ slot_used : (n : Network) (s : State) (id : ℕ) →
     InRange n → Kept n s → member id (controllers_of n) ≡ true → first (λ (x : ℕ). eqb x id) (controllers_of n) < length (heard_of n s)
 slot_used n s id g k e =
     let c = controllers_counted n g in
-    let h : length (heard_of n s) ≡ n.count = padded_count 4 (heard LastAnswer.Pending) s.answers n.count g.few_controllers k.slots in
+    let h : length (heard_of n s) ≡ n.count = padded_count 4 LastAnswer.Pending s.answers n.count g.few_controllers k.slots in
     let f = first_below (λ (x : ℕ). eqb x id) (controllers_of n) e in
     omega arith
 
 answer_by : (n : Network) (s : State) (id mode : ℕ) (ok b : Bool) →
     InRange n → takes_report s (Report.Controller mode) ≡ true → Kept n s → member id (controllers_of n) ≡ b →
-    Kept n (cond b (with_answers s (set s.answers (first (λ (x : ℕ). eqb x id) (controllers_of n)) (heard (answer_of ok)))) s)
+    Kept n (cond b (with_answers s (set s.answers (first (λ (x : ℕ). eqb x id) (controllers_of n)) (answer_of ok))) s)
 answer_by n s id mode ok false g e k f = k
 answer_by n s id mode ok true g e k f =
     let a = taken_asks s (Report.Controller mode) e in
@@ -246,7 +252,7 @@ answer_by n s id mode ok true g e k f =
       asked = k.asked;
       answers = λ d. absurd (true≢false (sym a ∙ d));
       reported = k.reported;
-      slots = padded_store 4 (heard LastAnswer.Pending) (heard (answer_of ok)) s.answers n.count _ k.slots (slot_used n s id g k f);
+      slots = padded_store 4 LastAnswer.Pending (answer_of ok) s.answers n.count _ k.slots (slot_used n s id g k f);
     }
 
 pub answer_kept : (n : Network) (s : State) (id mode : ℕ) (ok : Bool) →

@@ -2,9 +2,10 @@
 use Rattle.lists.proofs.Tests.{split}
 use Rattle.lists.proofs.Basics.{ℕ, zero, suc, arith, lt-ltb, eqb-true, ne_eqb, ◌≡◌, refl, sym, ap, ◌∙◌, List, [], true, false, cond, true≢false, eqb}
 use Rattle.lists.proofs.Basics.{ltb}
+use Rattle.std.specs.Prelude.{Option, None, Some, Result, Ok, Err}
 use Rattle.lists.specs.Lists.{any, every}
 use Rattle.records.specs.declared.Mode.{Mode}
-use Rattle.records.specs.declared.NamedMode.{NamedMode}
+use Rattle.records.specs.declared.UnknownMode.{UnknownMode}
 use Rattle.records.specs.declared.Record.{Record}
 use Rattle.records.specs.Records.{mode_number, by_named}
 use Rattle.settings.specs.declared.Network.{Network}
@@ -15,18 +16,17 @@ use Rattle.handing.specs.Handing.{own_record}
 use Rattle.network.specs.declared.Hit.{Hit}
 use Rattle.network.specs.declared.Part.{Part}
 use Rattle.network.specs.declared.Refusal.{Refusal}
-use Rattle.network.specs.declared.Reply.{Reply}
 use Rattle.network.specs.declared.Report.{Report}
 use Rattle.network.specs.declared.State.{State}
 use Rattle.network.specs.State.{wants}
 use Rattle.network.specs.Replies.{refusal_number, reply_number, is_taken, silent_reply}
 use Rattle.network.specs.Answers.{takes_report, after_answer}
-use Rattle.network.specs.BusOff.{hit_of, stall_of, after_hit, hit_records}
+use Rattle.network.specs.BusOff.{hit_of, stall_of, hit_records}
 use Rattle.network.specs.Parts.{Sight, a_tick, a_bus_off, a_stall, an_answer, a_request, a_report, nothing, taken, declined, by_reply, wanted_part}
-use Rattle.network.specs.Parts.{request_part, out_of_range_part, taken_part, report_part, answer_part, hit_part, part_of, records_of}
+use Rattle.network.specs.Parts.{request_part, out_of_range_part, taken_part, report_part, answer_part, hit_reply, hit_part, part_of, records_of}
 use Rattle.network_theorems.specs.Kept.{Kept}
 use Rattle.network_theorems.proofs.Theorems.{tick_own, hit_own}
-use Rattle.network_theorems.proofs.Kept.{tick_kept, want_kept, hit_kept, answer_kept, report_kept}
+use Rattle.network_theorems.proofs.Kept.{tick_kept, want_kept, trouble_kept, answer_kept, report_kept}
 
 -- ---- replies
 -- no refusal has the number 0
@@ -38,17 +38,17 @@ refusal_refuses Refusal.GoingDown = refl
 refusal_refuses Refusal.NotTaken = refl
 
 -- so that a reply is taken exactly if its number is 0
-pub reply_accepted : (reply : Reply) → eqb 0 (reply_number reply) ≡ is_taken reply
-reply_accepted Reply.Taken = refl
-reply_accepted (Reply.Refused refusal) = refusal_refuses refusal
+pub reply_accepted : (reply : Result Unit Refusal) → eqb 0 (reply_number reply) ≡ is_taken reply
+reply_accepted (Ok tt) = refl
+reply_accepted (Err refusal) = refusal_refuses refusal
 
 -- and one that is taken has that number
-pub taken_number : (reply : Reply) → is_taken reply ≡ true → reply_number reply ≡ 0
+pub taken_number : (reply : Result Unit Refusal) → is_taken reply ≡ true → reply_number reply ≡ 0
 taken_number reply e = sym (eqb-true 0 (reply_number reply) (reply_accepted reply ∙ e))
 
 -- N15: silent is taken where the network is up, and else has one of three refusals
-by_silent : (phase : Phase) (Q : Reply → Type 0) → (up_phase phase ≡ true → Q Reply.Taken) → Q (Reply.Refused Refusal.Asleep)
-    → Q (Reply.Refused Refusal.ComingUp) → Q (Reply.Refused Refusal.GoingDown) → Q (silent_reply phase)
+by_silent : (phase : Phase) (Q : Result Unit Refusal → Type 0) → (up_phase phase ≡ true → Q (Ok tt)) → Q (Err Refusal.Asleep)
+    → Q (Err Refusal.ComingUp) → Q (Err Refusal.GoingDown) → Q (silent_reply phase)
 by_silent Phase.Off Q up asleep rising falling = asleep
 by_silent Phase.Rising Q up asleep rising falling = rising
 by_silent Phase.Checking Q up asleep rising falling = up refl
@@ -60,16 +60,22 @@ by_silent Phase.Resetting Q up asleep rising falling = up refl
 
 -- ---- by what a call is
 -- a bus-off
-pub by_hit : (s : State) (Q : Hit → Type 0) → (is_up s.step ≡ true → Q Hit.Recover) → (is_up s.step ≡ false → asks_to_start (asks_for s.step)
-    ≡ true → Q Hit.Restart) → (is_up s.step ≡ false → asks_to_start (asks_for s.step) ≡ false → Q Hit.NotTaken) → Q (hit_of s.step)
+pub by_hit : (s : State) (Q : Option Hit → Type 0) → (is_up s.step ≡ true → Q (Some Hit.Recover)) → (is_up s.step ≡ false → asks_to_start (asks_for s.step)
+    ≡ true → Q (Some Hit.Restart)) → (is_up s.step ≡ false → asks_to_start (asks_for s.step) ≡ false → Q None) → Q (hit_of s.step)
 unfolding hit_of
 by_hit s Q up starting neither = split Q (is_up s.step) up (λ u. split Q (asks_to_start (asks_for s.step)) (starting u) (neither u))
 
 -- a stall
-pub by_stall : (s : State) (Q : Hit → Type 0) → (is_full_step s.step ≡ true → Q Hit.Reset) → (is_full_step s.step ≡ false → Q Hit.NotTaken)
+pub by_stall : (s : State) (Q : Option Hit → Type 0) → (is_full_step s.step ≡ true → Q (Some Hit.Reset)) → (is_full_step s.step ≡ false → Q None)
     → Q (stall_of s.step)
 unfolding stall_of
 by_stall s Q full not = split Q (is_full_step s.step) full not
+
+-- the reply to trouble is that of what it does
+pub hit_replies : (s : State) (hit : Option Hit) → (hit_part s hit).reply ≡ hit_reply hit
+unfolding hit_part
+hit_replies s (Some hit) = refl
+hit_replies s None = refl
 
 module _ (s : State) (Q : Part → Type 0) where
   -- a request: silent is stored only where the network is up, and else refused by what it is about
@@ -78,12 +84,12 @@ module _ (s : State) (Q : Part → Type 0) where
       → Q (request_part s number)
   unfolding request_part wanted_part
   by_request number may asleep rising falling out =
-      let Named : NamedMode → Type 0 = λ named. Q (by_named named (wanted_part s) (declined s Refusal.OutOfRange)) in
-      split Named (eqb number 0) (λ e. may Mode.No (eqb-true number 0 e) (λ f. absurd (let z : ◌≡◌ {A = ℕ} 0 1 = cc in omega arith)))
+      let Named : Result Mode UnknownMode → Type 0 = λ named. Q (by_named named (wanted_part s) (declined s Refusal.OutOfRange)) in
+      split Named (eqb number 0) (λ e. may Mode.No (eqb-true number 0 e) (λ f. absurd cc))
       (λ _. split Named (eqb number 1)
       (λ e. by_silent (phase_of s.step) (λ reply. Q (by_reply reply (taken (wants s Mode.Silent)) (declined s)))
       (λ u. may Mode.Silent (eqb-true number 1 e) (λ _. u)) asleep rising falling)
-      (λ _. split Named (eqb number 2) (λ e. may Mode.Full (eqb-true number 2 e) (λ f. absurd (let z : ◌≡◌ {A = ℕ} 0 1 = cc in omega arith)))
+      (λ _. split Named (eqb number 2) (λ e. may Mode.Full (eqb-true number 2 e) (λ f. absurd cc))
       (λ _. out)))
 
   -- what is reported
@@ -101,9 +107,9 @@ module _ (s : State) (Q : Part → Type 0) where
 
 -- ---- the number of what a network answers to a request
 -- the reply is that of the request
-reply_kept : (s after : State) (reply : Reply) → (by_reply reply (taken after) (declined s)).reply ≡ reply
-reply_kept s after Reply.Taken = refl
-reply_kept s after (Reply.Refused refusal) = refl
+reply_kept : (s after : State) (reply : Result Unit Refusal) → (by_reply reply (taken after) (declined s)).reply ≡ reply
+reply_kept s after (Ok tt) = refl
+reply_kept s after (Err refusal) = refl
 
 -- R13: 21 for a mode above 2; of the others silent alone can be refused
 pub request_number_lem : (s : State) (mode : ℕ) → reply_number (request_part s mode).reply
@@ -121,15 +127,13 @@ request_number_lem s (suc (suc (suc mode))) =
 
 -- ---- what holds of every part
 -- nothing is handed out
-abbrev None : Type 0
-None = ◌≡◌ {A = List Record} [] []
+abbrev NoRecords : Type 0
+NoRecords = ◌≡◌ {A = List Record} [] []
 
-hit_stays : (n : Network) (s : State) (hit : Hit) → is_taken (hit_part s hit).reply ≡ false → ((hit_part s hit).state ≡ s) × (hit_records n hit ≡ [])
-unfolding hit_part after_hit hit_records
-hit_stays n s Hit.Recover e = absurd (true≢false e)
-hit_stays n s Hit.Restart e = absurd (true≢false e)
-hit_stays n s Hit.Reset e = absurd (true≢false e)
-hit_stays n s Hit.NotTaken e = (refl, refl)
+hit_stays : (n : Network) (s : State) (hit : Option Hit) → is_taken (hit_part s hit).reply ≡ false → ((hit_part s hit).state ≡ s) × (hit_records n hit ≡ [])
+unfolding hit_part hit_records
+hit_stays n s (Some hit) e = absurd (true≢false e)
+hit_stays n s None e = (refl, refl)
 
 -- a refusal keeps the record and hands out nothing
 pub refused_stays : (n : Network) (s : State) (sight : Sight) →
@@ -139,22 +143,22 @@ refused_stays n s a_tick e = absurd (true≢false e)
 refused_stays n s a_bus_off e = hit_stays n s (hit_of s.step) e
 refused_stays n s a_stall e = hit_stays n s (stall_of s.step) e
 refused_stays n s (an_answer c mode ok) e =
-    by_answer s (λ part. is_taken part.reply ≡ false → (part.state ≡ s) × None) n c mode ok
+    by_answer s (λ part. is_taken part.reply ≡ false → (part.state ≡ s) × NoRecords) n c mode ok
     (λ _ _ e. absurd (true≢false e)) (λ _ _. (refl, refl)) (λ _ _. (refl, refl)) (λ _ _. (refl, refl)) e
 refused_stays n s (a_request mode) e =
-    by_request s (λ part. is_taken part.reply ≡ false → (part.state ≡ s) × None) mode
+    by_request s (λ part. is_taken part.reply ≡ false → (part.state ≡ s) × NoRecords) mode
     (λ _ _ _ e. absurd (true≢false e)) (λ _. (refl, refl)) (λ _. (refl, refl)) (λ _. (refl, refl)) (λ _. (refl, refl)) e
 refused_stays n s (a_report report) e =
-    by_report s (λ part. is_taken part.reply ≡ false → (part.state ≡ s) × None) report _
+    by_report s (λ part. is_taken part.reply ≡ false → (part.state ≡ s) × NoRecords) report _
     (λ _ e. absurd (true≢false e)) (λ _ _. (refl, refl)) (λ _ _. (refl, refl)) e
 refused_stays n s nothing e = absurd (true≢false e)
 
 -- what `Kept` says of a record is kept by every call
 pub part_kept : (n : Network) (s : State) → InRange n → Kept n s → (sight : Sight) → Kept n (part_of n s sight).state
-unfolding part_of report_part hit_part
+unfolding part_of report_part
 part_kept n s g k a_tick = tick_kept n s k
-part_kept n s g k a_bus_off = hit_kept n s (hit_of s.step) k
-part_kept n s g k a_stall = hit_kept n s (stall_of s.step) k
+part_kept n s g k a_bus_off = trouble_kept n s (hit_of s.step) k
+part_kept n s g k a_stall = trouble_kept n s (stall_of s.step) k
 part_kept n s g k (an_answer c mode ok) =
     by_answer s (λ part. Kept n part.state) n c mode ok (λ _ e. answer_kept n s c mode (eqb ok 1) g e k) (λ _. k) (λ _. k) (λ _. k)
 part_kept n s g k (a_request mode) = by_request s (λ part. Kept n part.state) mode (λ w _ may. want_kept n s w may k) k k k k

@@ -1,6 +1,7 @@
 -- What the layers above rely on of one network, each theorem with its sentence. docs/PROOFS.md lists them.
 use Rattle.lists.proofs.Basics.{ℕ, ◌+◌, ◌≤◌, ◌<◌, arith, lt-leb, le-leb, eqb-true, eqb-false, ltb-true, ltb-false, ◌≡◌, refl, sym, ap, ◌∙◌, Bool}
 use Rattle.lists.proofs.Basics.{true, false, ◌||◌, eqb, ltb, leb, length}
+use Rattle.std.specs.Prelude.{Option, None, Some}
 use Rattle.lists.specs.Lists.{every}
 use Rattle.records.specs.declared.Mode.{Mode}
 use Rattle.settings.specs.declared.Relation.{Relation}
@@ -35,12 +36,12 @@ unfolding tick_records
 tick_own n s = move_own n s.step s.told (move_of n s)
 
 -- and so does every record of a bus-off or a stall
-pub hit_own : (n : Network) (hit : Hit) → every (own_record n) (hit_records n hit) ≡ true
+pub hit_own : (n : Network) (hit : Option Hit) → every (own_record n) (hit_records n hit) ≡ true
 unfolding hit_records every Rattle.lists.specs.Lists.any
-hit_own n Hit.Recover = recovery_own n
-hit_own n Hit.Restart = refl
-hit_own n Hit.Reset = reset_own n
-hit_own n Hit.NotTaken = refl
+hit_own n (Some Hit.Recover) = recovery_own n
+hit_own n (Some Hit.Restart) = refl
+hit_own n (Some Hit.Reset) = reset_own n
+hit_own n None = refl
 
 -- ---- told and wanted
 -- N5: a network that is said to be full is in step 4 or 5
@@ -48,8 +49,8 @@ pub told_full_means_checked_or_full : (n : Network) (s : State) → Kept n s →
 told_full_means_checked_or_full n s k e = sym k.told ∙ ap is_full_mode e
 
 full_mode : (m : Mode) → is_full_mode m ≡ true → m ≡ Mode.Full
-full_mode Mode.No e = absurd (let z : ◌≡◌ {A = ℕ} 0 1 = cc in omega arith)
-full_mode Mode.Silent e = absurd (let z : ◌≡◌ {A = ℕ} 0 1 = cc in omega arith)
+full_mode Mode.No e = absurd cc
+full_mode Mode.Silent e = absurd cc
 full_mode Mode.Full e = refl
 
 -- N5: and a network in step 4 or 5 is said to be full

@@ -1,11 +1,10 @@
 -- Examples of the rules of the tick, by computation on the definitions: at least one for each rule, as one list under one statement. A case is a
 -- network, its record, what a tick hands out and the record after it. The rules N11, N12, T3 to T25 and T28 to T30 of docs/RULES.md.
-use Rattle.std.specs.Prelude.{ℕ, ◌≡◌, refl, List, [], ◌∷◌, ◌++◌, map, Bool, true, false}
+use Rattle.std.specs.Prelude.{ℕ, ◌≡◌, refl, List, [], ◌∷◌, ◌++◌, map, Bool, true, false, Option, None, Some}
 use Rattle.lists.specs.Lists.{any, every}
 use Rattle.records.specs.declared.Record.{Record}
 use Rattle.records.specs.declared.Mode.{Mode}
 use Rattle.records.specs.Records.{handed}
-use Rattle.settings.specs.declared.Transceiver.{Transceiver}
 use Rattle.settings.specs.declared.Relation.{Relation}
 use Rattle.settings.specs.declared.Network.{Network}
 use Rattle.steps.specs.declared.Step.{Step}
@@ -18,12 +17,11 @@ use Rattle.handing.specs.Handing.{requests, entering, entering_full, entering_si
 use Rattle.network.specs.declared.LastAnswer.{LastAnswer}
 use Rattle.network.specs.declared.LastAnswer.TheVariants.{Pending, Okay, Refused}
 use Rattle.network.specs.declared.State.{State}
-use Rattle.network.specs.State.{heard}
 use Rattle.network.specs.Rules.{is_done, delay_of, move_of}
 use Rattle.network.specs.Moving.{after_move, tick_state, tick_records}
 
 -- ---- four networks: handle 7, controllers 3 and 4, delays 2 and 5, ensure time 3, threshold 1
-abbrev network : Transceiver → Bool → Relation → Network
+abbrev network : Option ℕ → Bool → Relation → Network
 network transceiver partial relation =
     record {
       handle = 7;
@@ -40,19 +38,19 @@ network transceiver partial relation =
 
 -- without transceiver: up from step 2, down by 10 and 12
 abbrev bare : Network
-bare = network Transceiver.Absent false Relation.Above
+bare = network None false Relation.Above
 
 -- the same with field 07
 abbrev newer : Network
-newer = network Transceiver.Absent false Relation.AtOrAbove
+newer = network None false Relation.AtOrAbove
 
 -- with transceiver 6 and without partial networking: up from step 1, down by 10, 12 and 11
 abbrev fitted : Network
-fitted = network (Transceiver.Present 6) false Relation.Above
+fitted = network (Some 6) false Relation.Above
 
 -- with transceiver 6 and partial networking: up from step 1, down by 9, 10, 11, 12 and 13, or 14 and again from 9
 abbrev partial : Network
-partial = network (Transceiver.Present 6) true Relation.Above
+partial = network (Some 6) true Relation.Above
 
 -- a record: step, wanted and told mode, bus-off count, asked, the answers of the two controllers, the report
 abbrev at : Step → Mode → Mode → ℕ → Bool → LastAnswer → LastAnswer → Bool → State
@@ -63,7 +61,7 @@ at step wanted told count asked first second reported =
       told = told;
       count = count;
       asked = asked;
-      answers = heard first ∷ heard second ∷ heard Pending ∷ heard Pending ∷ [];
+      answers = first ∷ second ∷ Pending ∷ Pending ∷ [];
       reported = reported;
     }
 

@@ -9,7 +9,7 @@ use Rattle.steps.specs.declared.Step.{Step}
 use Rattle.steps.specs.Steps.{is_up, is_full_step, is_asking}
 use Rattle.network.specs.declared.LastAnswer.{LastAnswer}
 use Rattle.network.specs.declared.State.{State}
-use Rattle.network.specs.State.{heard, blank_answers, heard_of}
+use Rattle.network.specs.State.{blank_answers, heard_of}
 
 -- N5: the told mode with which a network is said to be full
 abbrev pub is_full_mode : Mode → Bool
@@ -39,4 +39,4 @@ pub record Kept (n : Network) (s : State) : Type 0 where
   pub answers : is_asking s.step ≡ false → s.answers ≡ blank_answers
   pub reported : is_asking s.step ≡ false → s.reported ≡ false
   -- unused slots are pending
-  pub slots : s.answers ≡ padded most_controllers (heard LastAnswer.Pending) (heard_of n s)
+  pub slots : s.answers ≡ padded most_controllers LastAnswer.Pending (heard_of n s)

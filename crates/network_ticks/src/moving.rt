@@ -12,8 +12,7 @@ fn lower(told: Mode) -> Mode
     ensures { result ≡ lowered told }
 {
     match told {
-        Mode::No => Mode::No,
-        Mode::Silent => Mode::Silent,
+        Mode::No | Mode::Silent => told,
         Mode::Full => Mode::Silent,
     }
 }
@@ -22,16 +21,12 @@ fn told_after(to: Move, told: Mode) -> Mode
     ensures { result ≡ told_after to told }
 {
     match to {
-        Move::Stay => told,
-        Move::AskAgain => told,
-        Move::Count(_) => told,
         Move::EnterFull => Mode::Full,
         Move::EnterSilent => Mode::Silent,
-        Move::Pass => told,
-        Move::Wait => told,
         Move::GoDown => lower(told),
         Move::EnterNoCommunication => Mode::No,
-        Move::Enter(_) => told,
+        Move::Stay | Move::AskAgain | Move::Count(_) | Move::Pass | Move::Wait | Move::Enter(_) =>
+            told,
     }
 }
 
@@ -40,16 +35,8 @@ fn count_after(to: Move, count: u8) -> u8
     ensures { result ≡ count_after to count }
 {
     match to {
-        Move::Stay => count,
-        Move::AskAgain => count,
-        Move::Count(_) => count,
-        Move::EnterFull => count,
-        Move::EnterSilent => count,
         Move::Pass => 0,
-        Move::Wait => count,
-        Move::GoDown => count,
-        Move::EnterNoCommunication => count,
-        Move::Enter(_) => count,
+        _ => count,
     }
 }
 
@@ -58,16 +45,10 @@ fn asks_after(to: Move, asked: bool) -> bool
     ensures { result ≡ asks_after to asked }
 {
     match to {
-        Move::Stay => asked,
-        Move::AskAgain => true,
-        Move::Count(_) => asked,
-        Move::EnterFull => false,
-        Move::EnterSilent => false,
-        Move::Pass => false,
-        Move::Wait => false,
-        Move::GoDown => true,
-        Move::EnterNoCommunication => false,
-        Move::Enter(_) => true,
+        Move::Stay | Move::Count(_) => asked,
+        Move::AskAgain | Move::GoDown | Move::Enter(_) => true,
+        Move::EnterFull | Move::EnterSilent | Move::Pass => false,
+        Move::Wait | Move::EnterNoCommunication => false,
     }
 }
 
@@ -75,50 +56,25 @@ fn asks_after(to: Move, asked: bool) -> bool
 fn keeps_answers(to: Move) -> bool
     ensures { result ≡ keeps_answers to }
 {
-    match to {
-        Move::Stay => true,
-        Move::AskAgain => true,
-        Move::Count(_) => true,
-        Move::EnterFull => false,
-        Move::EnterSilent => false,
-        Move::Pass => false,
-        Move::Wait => false,
-        Move::GoDown => false,
-        Move::EnterNoCommunication => false,
-        Move::Enter(_) => false,
-    }
+    matches!(to, Move::Stay | Move::AskAgain | Move::Count(_))
 }
 
 pub fn after_move(network: Network, state: State, to: Move) -> State
     ensures { result ≡ after_move network state to }
 {
-    let before = state.step;
-    let was_told = state.told;
-    let wanted = state.wanted;
-    let step = steps::step_after(to, before, network.partial);
-    let told = told_after(to, was_told);
-    let count = count_after(to, state.count);
-    let asked = asks_after(to, state.asked);
+    let moved = State {
+        step: steps::step_after(to, state.step, network.partial),
+        told: told_after(to, state.told),
+        count: count_after(to, state.count),
+        asked: asks_after(to, state.asked),
+        ..state
+    };
     if keeps_answers(to) {
-        let answers = state.answers;
-        return State {
-            step,
-            wanted,
-            told,
-            count,
-            asked,
-            answers,
-            reported: state.reported,
-        };
+        return moved;
     }
-    let answers = State::no_answers();
     State {
-        step,
-        wanted,
-        told,
-        count,
-        asked,
-        answers,
+        answers: State::NO_ANSWERS,
         reported: false,
+        ..moved
     }
 }

@@ -1,75 +1,36 @@
 // One network's tick: the conditions, the decision, and what follows from it.
 ghost use Rattle.std.specs.Prelude.{◌≡◌};
-ghost use Rattle.lists.specs.Lists.{any, every};
-ghost use Rattle.records.specs.Wrote.{Room, Wrote};
+ghost use Rattle.std.specs.List.{list_all, list_any};
+ghost use Rattle.records.specs.Tray.{HasRoom, Handed};
 ghost use Rattle.network.specs.State.{heard_of};
 ghost use Rattle.network.specs.Rules.{is_okay, is_refusal, is_done, is_long, delay_of, reached_by, outfit_of, move_of};
 ghost use Rattle.network.specs.Moving.{tick_state, tick_records};
 ghost use Rattle.network.specs.Rest.{rests_in};
 
 use crate::moving::after_move;
-use network::{Heard, LastAnswer, State, Ticked};
-use records::Mode;
-use settings::{Network, Relation, Transceiver};
+use network::{LastAnswer, State};
+use records::{Mode, Tray};
+use settings::{Network, Relation};
 use steps::{Ask, Move, Outfit, Phase, Timer};
 
 // ---- the answers
 
-fn is_okay(heard: Heard) -> bool
-    ensures { result ≡ is_okay heard }
-{
-    let answer = heard.answer;
-    match answer {
-        LastAnswer::Pending => false,
-        LastAnswer::Okay => true,
-        LastAnswer::Refused => false,
-    }
-}
-
-fn is_refusal(heard: Heard) -> bool
-    ensures { result ≡ is_refusal heard }
-{
-    let answer = heard.answer;
-    match answer {
-        LastAnswer::Pending => false,
-        LastAnswer::Okay => false,
-        LastAnswer::Refused => true,
-    }
-}
-
 // Every controller's last answer is ok.
 fn all_okay(network: Network, state: State) -> bool
-    ensures { result ≡ every is_okay (heard_of network state) }
+    ensures { result ≡ list_all is_okay (heard_of network state) }
 {
-    let answers = state.answers;
-    let used = Network::in_use(network.count);
-    let mut i: u8 = 0;
-    while i < used {
-        let heard = answers[i as usize];
-        if is_okay(heard) {
-            i += 1;
-        } else {
-            return false;
-        }
-    }
-    true
+    lists::in_use(&state.answers, network.count)
+        .iter()
+        .all(|&answer| answer == LastAnswer::Okay)
 }
 
 // Some controller's last answer is a refusal.
 fn any_refused(network: Network, state: State) -> bool
-    ensures { result ≡ any is_refusal (heard_of network state) }
+    ensures { result ≡ list_any is_refusal (heard_of network state) }
 {
-    let answers = state.answers;
-    let used = Network::in_use(network.count);
-    let mut i: u8 = 0;
-    while i < used {
-        let heard = answers[i as usize];
-        if is_refusal(heard) {
-            return true;
-        }
-        i += 1;
-    }
-    false
+    lists::in_use(&state.answers, network.count)
+        .iter()
+        .any(|&answer| answer == LastAnswer::Refused)
 }
 
 // ---- the conditions of the decision
@@ -78,17 +39,12 @@ fn any_refused(network: Network, state: State) -> bool
 fn is_done(network: Network, state: State) -> bool
     ensures { result ≡ is_done network state }
 {
-    if state.asked {
-        let step = state.step;
-        return match step.asks() {
+    state.asked
+        && match state.step.asks() {
             Ask::Nothing => false,
             Ask::Controllers(_) => all_okay(network, state),
-            Ask::Transceiver(_) => state.reported,
-            Ask::ClearWake => state.reported,
-            Ask::CheckWake => state.reported,
-        };
-    }
-    false
+            Ask::Transceiver(_) | Ask::ClearWake | Ask::CheckWake => state.reported,
+        }
 }
 
 // S27, T13: the long delay, where the count is above the threshold or, by the newer relation, at it already.
@@ -104,14 +60,15 @@ fn is_long(relation: Relation, threshold: u8, count: u8) -> bool
 fn delay_of(network: Network, count: u8) -> u16
     ensures { result ≡ delay_of network count }
 {
-    let relation = network.relation;
-    if is_long(relation, network.threshold, count) {
-        return network.long;
+    if is_long(network.relation, network.threshold, count) {
+        network.long
+    } else {
+        network.short
     }
-    network.short
 }
 
 // T10, T13: with this tick the number of ticks reaches its time.
+// Stays a match: each of its three arms says something else.
 fn is_reached(timer: Timer, ensure: u16, delay: u16) -> bool
     ensures { result ≡ reached_by timer ensure delay }
 {
@@ -122,16 +79,13 @@ fn is_reached(timer: Timer, ensure: u16, delay: u16) -> bool
     }
 }
 
-fn outfit_of(transceiver: Transceiver, partial: bool) -> Outfit
+fn outfit_of(transceiver: Option<u8>, partial: bool) -> Outfit
     ensures { result ≡ outfit_of transceiver partial }
 {
-    match transceiver {
-        Transceiver::Absent => Outfit::Bare,
-        Transceiver::Present(_) => if partial {
-            Outfit::Partial
-        } else {
-            Outfit::Fitted
-        },
+    match (transceiver, partial) {
+        (None, _) => Outfit::Bare,
+        (Some(_), false) => Outfit::Fitted,
+        (Some(_), true) => Outfit::Partial,
     }
 }
 
@@ -140,60 +94,31 @@ fn choose(network: Network, state: State) -> Move
     ensures { result ≡ move_of network state }
 {
     let step = state.step;
-    let wanted = state.wanted;
-    let ask = step.asks();
-    let timer = step.timer();
-    let transceiver = network.transceiver;
     let done = is_done(network, state);
-    let delay = delay_of(network, state.count);
-    let reached = is_reached(timer, network.ensure, delay);
-    let outfit = outfit_of(transceiver, network.partial);
-    if ask.is_to_sleep() {
-        let refused = any_refused(network, state);
-        return deciding::decide(step, wanted, done, refused, reached, outfit);
-    }
-    deciding::decide(step, wanted, done, false, reached, outfit)
+    let refused = step.asks().is_to_sleep() && any_refused(network, state);
+    let reached = is_reached(step.timer(), network.ensure, delay_of(network, state.count));
+    let outfit = outfit_of(network.transceiver, network.partial);
+    deciding::decide(step, state.wanted, done, refused, reached, outfit)
 }
 
 // The network rests: what is wanted is there. Its tick changes nothing and hands out nothing.
 pub fn rests(state: State) -> bool
     ensures { result ≡ rests_in state.step state.wanted }
 {
-    let step = state.step;
-    let wanted = state.wanted;
-    match step.phase() {
-        Phase::Off => match wanted {
-            Mode::No => true,
-            Mode::Silent => false,
-            Mode::Full => false,
-        },
-        Phase::Rising => false,
-        Phase::Checking => false,
-        Phase::Full => match wanted {
-            Mode::No => false,
-            Mode::Silent => false,
-            Mode::Full => true,
-        },
-        Phase::Recovering => false,
-        Phase::Silent => match wanted {
-            Mode::No => false,
-            Mode::Silent => true,
-            Mode::Full => false,
-        },
-        Phase::Falling => false,
-        Phase::Resetting => false,
-    }
+    matches!(
+        (state.step.phase(), state.wanted),
+        (Phase::Off, Mode::No) | (Phase::Full, Mode::Full) | (Phase::Silent, Mode::Silent)
+    )
 }
 
-// One network's tick: what it hands out is written from record number k on.
-pub fn tick(network: Network, state: State, out: &mut [u8], k: usize) -> Ticked
-    requires { Room out.old k (tick_records network state) }
-    ensures { (result.state ≡ tick_state network state) × Wrote out.old out.new k result.next (tick_records network state) }
+// One network's tick: the record after it, and what it hands out onto the tray.
+#[tactic(auto, unfolding(network::specs::Moving::tick_state, network::specs::Moving::tick_records))]
+pub fn tick(network: Network, state: State, tray: &mut Tray) -> State
+    requires { HasRoom tray.old (tick_records network state) }
+    ensures state { result ≡ tick_state network state }
+    ensures records { Handed tray.old (tick_records network state) tray.new }
 {
     let to = choose(network, state);
-    let step = state.step;
-    let told = state.told;
-    let next = handing::put_move(out, k, network, step, told, to);
-    let after = after_move(network, state, to);
-    Ticked { state: after, next }
+    handing::put_move(tray, network, state.step, state.told, to);
+    after_move(network, state, to)
 }

@@ -3,26 +3,23 @@ ghost use Rattle.std.specs.Prelude.{◌≡◌};
 ghost use Rattle.network.specs.Parts.{a_report};
 ghost use Rattle.slots.specs.Calls as calls;
 
+use finding::slot_in;
 use network::Report;
 use settings::Id;
-use slots::{Manager, Outcome, Slot, settle, slot_of};
+use slots::{Manager, Outcome, settle};
 
 // A1: a controller answers the request for a mode with ok (1) or not (0).
 pub fn controller_answer(manager: Manager, id: u8, mode: u8, ok: u8) -> Outcome
     ensures { result ≡ calls.outcome manager (calls.answer id mode ok) }
 {
-    match slot_of(manager, Id::OfController(id)) {
-        Slot::Refused(answer) => Outcome::refuse(manager, answer),
-        Slot::At(at) => {
-            let network = manager.network_at(at);
-            let state = manager.state_at(at);
-            settle(
-                manager,
-                at,
-                network::answer_part(network, state, id, mode, ok),
-                0,
-            )
-        }
+    match slot_in(&manager, Id::OfController(id)) {
+        Err(refusal) => Outcome::refuse(manager, refusal),
+        Ok(at) => settle(
+            manager,
+            at,
+            network::answer_part(manager.network_at(at), manager.state_at(at), id, mode, ok),
+            0,
+        ),
     }
 }
 
@@ -30,9 +27,9 @@ pub fn controller_answer(manager: Manager, id: u8, mode: u8, ok: u8) -> Outcome
 fn take_report(manager: Manager, id: u8, report: Report) -> Outcome
     ensures { result ≡ calls.named manager (Id.OfTransceiver id) (a_report report) }
 {
-    match slot_of(manager, Id::OfTransceiver(id)) {
-        Slot::Refused(answer) => Outcome::refuse(manager, answer),
-        Slot::At(at) => settle(
+    match slot_in(&manager, Id::OfTransceiver(id)) {
+        Err(refusal) => Outcome::refuse(manager, refusal),
+        Ok(at) => settle(
             manager,
             at,
             network::report_part(manager.state_at(at), report),
@@ -42,6 +39,7 @@ fn take_report(manager: Manager, id: u8, report: Report) -> Outcome
 }
 
 // A3: a transceiver reports its mode.
+#[tactic(auto, unfolding(slots::specs::Calls::outcome))]
 pub fn transceiver_mode(manager: Manager, id: u8, mode: u8) -> Outcome
     ensures { result ≡ calls.outcome manager (calls.transceiver_mode id mode) }
 {
@@ -49,6 +47,7 @@ pub fn transceiver_mode(manager: Manager, id: u8, mode: u8) -> Outcome
 }
 
 // A4: the wake flag of a transceiver was cleared.
+#[tactic(auto, unfolding(slots::specs::Calls::outcome))]
 pub fn clear_done(manager: Manager, id: u8) -> Outcome
     ensures { result ≡ calls.outcome manager (calls.clear_done id) }
 {
@@ -56,6 +55,7 @@ pub fn clear_done(manager: Manager, id: u8) -> Outcome
 }
 
 // A5: the wake flag of a transceiver was checked.
+#[tactic(auto, unfolding(slots::specs::Calls::outcome))]
 pub fn check_done(manager: Manager, id: u8) -> Outcome
     ensures { result ≡ calls.outcome manager (calls.check_done id) }
 {

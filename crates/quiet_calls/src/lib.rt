@@ -1,4 +1,5 @@
 // The manager's calls that name an id and hand out nothing: requests and polls from above, answers and reports from below.
+// They stay beside `hearing::heard`, which promises the same of a message: the wrong programs of this crate are edits of each call.
 #![tactic(auto)]
 
 mod answering;

@@ -3,16 +3,18 @@ ghost use Rattle.std.specs.Prelude.{◌≡◌};
 ghost use Rattle.slots.specs.Manager.{state_at};
 ghost use Rattle.slots.specs.Calls as calls;
 
+use finding::slot_in;
 use settings::Id;
-use slots::{Answer, Manager, Outcome, Slot, settle, slot_of};
+use slots::{Manager, Outcome, settle};
 
 // A communication mode is wanted of the network with this handle.
+// The two arms stay in each call: a function of both would take a closure, and say by a clause what the second arm says by itself.
 pub fn request(manager: Manager, handle: u8, mode: u8) -> Outcome
     ensures { result ≡ calls.outcome manager (calls.request handle mode) }
 {
-    match slot_of(manager, Id::OfNetwork(handle)) {
-        Slot::Refused(answer) => Outcome::refuse(manager, answer),
-        Slot::At(at) => settle(
+    match slot_in(&manager, Id::OfNetwork(handle)) {
+        Err(refusal) => Outcome::refuse(manager, refusal),
+        Ok(at) => settle(
             manager,
             at,
             network::request_part(manager.state_at(at), mode),
@@ -24,14 +26,9 @@ pub fn request(manager: Manager, handle: u8, mode: u8) -> Outcome
 fn poll_at(manager: Manager, at: usize) -> Outcome
     ensures { result ≡ calls.polled manager (state_at manager at).told }
 {
-    let state = manager.state_at(at);
-    let told = state.told;
     Outcome {
-        answer: Answer::Accepted,
-        manager,
-        count: 0,
-        mode: told.number(),
-        place: 0,
+        mode: u8::from(manager.state_at(at).told),
+        ..Outcome::accept(manager)
     }
 }
 
@@ -39,8 +36,8 @@ fn poll_at(manager: Manager, at: usize) -> Outcome
 pub fn poll(manager: Manager, handle: u8) -> Outcome
     ensures { result ≡ calls.outcome manager (calls.poll handle) }
 {
-    match slot_of(manager, Id::OfNetwork(handle)) {
-        Slot::Refused(answer) => Outcome::refuse(manager, answer),
-        Slot::At(at) => poll_at(manager, at),
+    match slot_in(&manager, Id::OfNetwork(handle)) {
+        Err(refusal) => Outcome::refuse(manager, refusal),
+        Ok(at) => poll_at(manager, at),
     }
 }

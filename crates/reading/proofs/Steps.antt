@@ -1,5 +1,5 @@
 -- Reading from a place on, by what stands there; and that an entry that is taken brings the reader further.
-use Rattle.lists.proofs.Basics.{ℕ, ◌+◌, ◌-◌, ◌^◌, ◌≤◌, ◌<◌, arith, leb-false, ◌≡◌, refl, sym, ap, subst, ◌∙◌, List, eqb, leb, length}
+use Rattle.lists.proofs.Basics.{ℕ, ◌+◌, ◌-◌, ◌^◌, ◌≤◌, ◌<◌, arith, leb-false, ◌≡◌, refl, subst, List, eqb, leb, length}
 use Rattle.lists.proofs.Basics.{length-drop, drop}
 use Rattle.lists.proofs.Tests.{split}
 use Rattle.fields.specs.declared.Reader.{Reader}
@@ -19,8 +19,8 @@ use Rattle.entries.specs.declared.Entry.TheVariants.{End, Bad}
 use Rattle.entries.specs.declared.Progress.{Progress}
 use Rattle.entries.specs.declared.Progress.TheVariants.{Named}
 use Rattle.entries.specs.declared.Opening.{Opening}
-use Rattle.entries.specs.declared.Opening.TheVariants.{Closes, Begins, Refuses, Amends}
-use Rattle.entries.specs.declared.Filling.{Filling}
+use Rattle.entries.specs.declared.Opening.TheVariants.{Closes, Begins, Amends}
+use Rattle.std.specs.Prelude.{Result, Ok, Err}
 use Rattle.entries.specs.declared.Filled.{Filled}
 use Rattle.entries.specs.Entries.{entry_at}
 use Rattle.entries.proofs.Laws.{some_before}
@@ -61,7 +61,7 @@ sheet_from s at S (Overrun tag n) = refl
 sheet_from s at S (Whole tag n next) = refl
 
 network_from : (s : List ℕ) (at : ℕ) (S : Settings) (N : Network) (P : Progress) (f : Field) → network (row_from s at f) S N P ≡
-    after_filling (fills S N P (entry_at (row_from s at f))).filling (fills S N P (entry_at (row_from s at f))).network (entry_at (row_from s at f)) at
+    after_filling (fills S N P (entry_at (row_from s at f))) (entry_at (row_from s at f)) at
     (λ m progress. network (row_at s (next_of f at)) S m progress) (λ m. sheet (row_at s (next_of f at)) (pushed S m))
 unfolding network after_filling fills entry_at
 network_from s at S N P Field.End = refl
@@ -70,11 +70,11 @@ network_from s at S N P (Overrun tag n) = refl
 network_from s at S N P (Whole tag n next) = refl
 
 -- an entry with which a network begins is taken, and there is room for the network; so is field 07, and there is a network before
-abbrev Started : Settings → Entry → Opening → Type 0
-Started S entry Closes = Unit
-Started S entry (Begins handle) = Taken entry × (S.count < 8)
-Started S entry (Refuses fault) = Unit
-Started S entry Amends = Taken entry × (0 < S.count)
+abbrev Started : Settings → Entry → Result Opening Fault → Type 0
+Started S entry (Ok Closes) = Unit
+Started S entry (Ok (Begins handle)) = Taken entry × (S.count < 8)
+Started S entry (Ok Amends) = Taken entry × (0 < S.count)
+Started S entry (Err fault) = Unit
 
 started : (S : Settings) (entry : Entry) → Started S entry (opens S entry)
 unfolding opens opens_with on_relation
@@ -145,15 +145,15 @@ module _ (s : List ℕ) (at : ℕ) (few : length s < 2 ^ 63) (S : Settings) (fau
       let r = row_further s at tag n next e in inside_fits (entry_at (row_from s at (Whole tag n next))) (omega arith)
 
   -- the end is not refused where a network may begin
-  opened_fits : (f : Field) → Refuses fault ≡ opens S (entry_at (row_from s at f)) → Fits f
+  opened_fits : (f : Field) → Err fault ≡ opens S (entry_at (row_from s at f)) → Fits f
   unfolding opens entry_at
-  opened_fits Field.End x = absurd (let z : ◌≡◌ {A = ℕ} 0 1 = cc in omega arith)
+  opened_fits Field.End x = absurd cc
   opened_fits (Stub tag) x = stub_fits tag
   opened_fits (Overrun tag n) x = overrun_fits tag n
   opened_fits (Whole tag n next) x = whole_fits tag n next
 
   -- within a network it is, and told where it is
-  filled_fits : (N : Network) (P : Progress) (f : Field) → (fills S N P (entry_at (row_from s at f))).filling ≡ Filling.Refused fault → at < 2 ^ 64 → Fits f
+  filled_fits : (N : Network) (P : Progress) (f : Field) → Err fault ≡ fills S N P (entry_at (row_from s at f)) → at < 2 ^ 64 → Fits f
   unfolding fills entry_at
   filled_fits N P Field.End x fits = λ _. let same : Cut ≡ fault = cc in rw (← same) fits
   filled_fits N P (Stub tag) x fits = stub_fits tag
@@ -162,17 +162,17 @@ module _ (s : List ℕ) (at : ℕ) (few : length s < 2 ^ 63) (S : Settings) (fau
 
 -- an entry that is not refused in a network
 filled_taken : (S : Settings) (N : Network) (P : Progress) (entry : Entry) →
-    ((fault : Fault) → (fills S N P entry).filling ≡ Filling.Refused fault → ⊥) → Taken entry
+    (filled : Filled) → Ok filled ≡ fills S N P entry → Taken entry
 unfolding fills
-filled_taken S N P End h = h Cut refl
-filled_taken S N P (Bad fault) h = h fault refl
-filled_taken S N P (Entry.Handle x) h = tt
-filled_taken S N P (Entry.Controller id) h = tt
-filled_taken S N P (Entry.Transceiver id) h = tt
-filled_taken S N P (Entry.Times x y z) h = tt
-filled_taken S N P (Entry.Threshold x) h = tt
-filled_taken S N P (Entry.Partial x) h = tt
-filled_taken S N P (Entry.Relation x) h = tt
+filled_taken S N P End m e = absurd cc
+filled_taken S N P (Bad fault) m e = absurd cc
+filled_taken S N P (Entry.Handle x) m e = tt
+filled_taken S N P (Entry.Controller id) m e = tt
+filled_taken S N P (Entry.Transceiver id) m e = tt
+filled_taken S N P (Entry.Times x y z) m e = tt
+filled_taken S N P (Entry.Threshold x) m e = tt
+filled_taken S N P (Entry.Partial x) m e = tt
+filled_taken S N P (Entry.Relation x) m e = tt
 
 -- as the code has it: the entry, what it does, and the next place
 module _ {s : List ℕ} {at : ℕ} {entry : Entry} {next : ℕ} (r : ReadAt entry_at s at entry next) (S : Settings) where
@@ -182,31 +182,30 @@ module _ {s : List ℕ} {at : ℕ} {entry : Entry} {next : ℕ} (r : ReadAt entr
   further : Taken entry → Further s at next
   further t = rw r.where_next (taken_from s at (front at (drop at s)) refl (rw (r.what, here) at t))
 
-  pub opens_fits : (fault : Fault) → Refuses fault ≡ opens S entry → length s < 2 ^ 63 → place_of fault entry at < 2 ^ 64
+  pub opens_fits : (fault : Fault) → Err fault ≡ opens S entry → length s < 2 ^ 63 → place_of fault entry at < 2 ^ 64
   opens_fits fault e few = rw (r.what, here) (opened_fits s at few S fault (front at (drop at s)) (rw (r.what, here) at e) refl)
 
-  pub sheet_by : (o : Opening) → o ≡ opens S entry →
+  pub sheet_by : (o : Result Opening Fault) → o ≡ opens S entry →
       sheet (row_at s at) S ≡ after_opening o S entry at (λ handle. network (row_at s next) S (begun handle) Named) (λ more. sheet (row_at s next) more)
   sheet_by o e = rw (e, r.what, r.where_next, here) (sheet_from s at S (front at (drop at s)))
 
-  pub begins_further : (o : Opening) (handle : ℕ) → o ≡ opens S entry → o ≡ Begins handle → Further s at next × (S.count < 8)
-  begins_further o handle e b = let m = rw (sym e ∙ b) at (started S entry) in (further m.0, m.1)
+  pub begins_further : (handle : ℕ) → Ok (Begins handle) ≡ opens S entry → Further s at next × (S.count < 8)
+  begins_further handle e = let m = rw (← e) at (started S entry) in (further m.0, m.1)
 
-  pub amends_further : (o : Opening) → o ≡ opens S entry → o ≡ Amends → Further s at next × (0 < S.count)
-  amends_further o e b = let m = rw (sym e ∙ b) at (started S entry) in (further m.0, m.1)
+  pub amends_further : Ok Amends ≡ opens S entry → Further s at next × (0 < S.count)
+  amends_further e = let m = rw (← e) at (started S entry) in (further m.0, m.1)
 
-  module _ (N : Network) (P : Progress) (m : Filled) (e : m ≡ fills S N P entry) where
-    pub network_by : network (row_at s at) S N P ≡
-        after_filling m.filling m.network entry at (λ n progress. network (row_at s next) S n progress) (λ n. sheet (row_at s next) (pushed S n))
-    network_by = rw (e, r.what, r.where_next, here) (network_from s at S N P (front at (drop at s)))
+  module _ (N : Network) (P : Progress) where
+    pub network_by : (m : Result Filled Fault) → m ≡ fills S N P entry → network (row_at s at) S N P ≡
+        after_filling m entry at (λ n progress. network (row_at s next) S n progress) (λ n. sheet (row_at s next) (pushed S n))
+    network_by m e = rw (e, r.what, r.where_next, here) (network_from s at S N P (front at (drop at s)))
 
-    pub fills_fits : (fault : Fault) → m.filling ≡ Filling.Refused fault → at < 2 ^ 64 → length s < 2 ^ 63 → place_of fault entry at < 2 ^ 64
-    fills_fits fault x fits few =
-        let filled : (fills S N P entry).filling ≡ Filling.Refused fault = sym (ap (λ (k : Filled). k.filling) e) ∙ x in
-        rw (r.what, here) (filled_fits s at few S fault N P (front at (drop at s)) (rw (r.what, here) at filled) fits refl)
+    pub fills_fits : (fault : Fault) → Err fault ≡ fills S N P entry → at < 2 ^ 64 → length s < 2 ^ 63 → place_of fault entry at < 2 ^ 64
+    fills_fits fault e fits few =
+        rw (r.what, here) (filled_fits s at few S fault N P (front at (drop at s)) (rw (r.what, here) at e) fits refl)
 
-    pub fills_further : ((fault : Fault) → m.filling ≡ Filling.Refused fault → ⊥) → Further s at next
-    fills_further h = further (filled_taken S N P entry (λ fault x. h fault (ap (λ (k : Filled). k.filling) e ∙ x)))
+    pub fills_further : (filled : Filled) → Ok filled ≡ fills S N P entry → Further s at next
+    fills_further filled e = further (filled_taken S N P entry filled e)
 
 -- a reader that was moved further has fewer bytes unread
 pub fewer_left : (d moved : Reader) (next : ℕ) → (moved.bytes ≡ d.bytes) × (moved.place ≡ next) → Further d.bytes.now d.place next →

@@ -6,7 +6,7 @@ ghost use Rattle.fields.specs.Fields.{row_at};
 ghost use Rattle.sheet.specs.Reading.{sheet, network, read_from};
 ghost use Rattle.sheet.specs.Outcomes.{ReadOutcome};
 
-use entries::{Entry, Filling, Opening, Progress};
+use entries::{Opening, Progress};
 use fields::Reader;
 use settings::{Network, Settings};
 use sheet::Reading;
@@ -17,23 +17,19 @@ fn read_sheet<'a>(reader: Reader<'a>, settings: Settings) -> Reading
     ensures { result ≡ sheet (row_at reader.entry.bytes.now reader.entry.place) settings }
 {
     let found = entries::next_entry(reader);
-    let opening = grammar::open_network(settings, found.entry);
-    match opening {
-        Opening::Closes => reading_parts::close_sheet(settings, reader.place),
-        Opening::Begins(handle) => {
-            let begun = grammar::begin_network(handle);
-            read_network(
-                reader.moved_to(found.next),
-                settings,
-                begun,
-                Progress::Named,
-            )
-        }
-        Opening::Refuses(fault) => reading_parts::refuse_entry(fault, found.entry, reader.place),
-        Opening::Amends => {
-            let more = reading_parts::amend_network(settings);
-            read_sheet(reader.moved_to(found.next), more)
-        }
+    match grammar::open_network(settings, found.entry) {
+        Ok(Opening::Closes) => reading_parts::close_sheet(settings, reader.place),
+        Ok(Opening::Begins(handle)) => read_network(
+            reader.moved_to(found.next),
+            settings,
+            grammar::begin_network(handle),
+            Progress::Named,
+        ),
+        Ok(Opening::Amends) => read_sheet(
+            reader.moved_to(found.next),
+            reading_parts::amend_network(settings),
+        ),
+        Err(fault) => reading_parts::refuse_entry(fault, found.entry, reader.place),
     }
 }
 
@@ -49,24 +45,20 @@ fn read_network<'a>(
     ensures { result ≡ network (row_at reader.entry.bytes.now reader.entry.place) settings part progress }
 {
     let found = entries::next_entry(reader);
-    let filled = grammar::fill_network(settings, part, progress, found.entry);
-    let filling = filled.filling;
-    match filling {
-        Filling::More(next) => read_network(
-            reader.moved_to(found.next),
-            settings,
-            filled.network,
-            next,
-        ),
-        Filling::Whole => {
-            let more = reading_parts::push_network(settings, filled.network);
-            read_sheet(reader.moved_to(found.next), more)
-        }
-        Filling::Refused(fault) => reading_parts::refuse_entry(fault, found.entry, reader.place),
+    match grammar::fill_network(settings, part, progress, found.entry) {
+        Ok(filled) => match filled.progress {
+            Some(next) => read_network(reader.moved_to(found.next), settings, filled.network, next),
+            None => read_sheet(
+                reader.moved_to(found.next),
+                reading_parts::push_network(settings, filled.network),
+            ),
+        },
+        Err(fault) => reading_parts::refuse_entry(fault, found.entry, reader.place),
     }
 }
 
 // S13: the settings that the unread bytes of a reader say.
+#[tactic(auto, unfolding(sheet::specs::Reading::read_from))]
 pub fn read_from<'a>(reader: Reader<'a>) -> Reading
     ensures { result ≡ read_from reader.entry.bytes.now reader.entry.place }
 {

@@ -7,9 +7,10 @@ ghost use Rattle.sheet.specs.Reading.{pushed, amended, first_zero, number_in, pl
 use entries::{Entry, Fault};
 use fields::Field;
 use settings::{Network, Settings};
-use sheet::{Reading, Verdict};
+use sheet::Reading;
 
 // S29: how far into the value the first of three times stands that is 0.
+#[tactic(auto, unfolding(sheet::specs::Reading::first_zero))]
 fn first_zero(short: u16, long: u16, ensure: u16) -> usize
     ensures { result ≡ first_zero short long ensure }
 {
@@ -30,19 +31,12 @@ fn number_in(entry: Entry) -> usize
     ensures { result ≡ number_in entry }
 {
     match entry {
-        Entry::End => 0,
-        Entry::Bad(_) => 0,
-        Entry::Handle(_) => 0,
-        Entry::Controller(_) => 0,
-        Entry::Transceiver(_) => 0,
         Entry::Times {
             short,
             long,
             ensure,
         } => first_zero(short, long, ensure),
-        Entry::Threshold(_) => 0,
-        Entry::Partial(_) => 0,
-        Entry::Relation(_) => 0,
+        _ => 0,
     }
 }
 
@@ -52,30 +46,25 @@ fn place_of(fault: Fault, entry: Entry, at: usize) -> usize
     ensures { result ≡ place_of fault entry at }
 {
     match fault {
-        Fault::Cut => at,
-        Fault::UnknownTag => at,
         Fault::WrongLength => at + Field::LENGTH,
-        Fault::OutOfOrder => at,
         Fault::OutOfRange => at + Field::HEAD + number_in(entry),
-        Fault::UsedBefore => at,
-        Fault::TooMany => at,
-        Fault::NoTransceiver => at,
-        Fault::Empty => at,
+        _ => at,
     }
 }
 
+#[tactic(auto, unfolding(sheet::specs::Reading::refused_at))]
 fn refuse(fault: Fault, place: usize) -> Reading
     ensures { result ≡ refused_at fault place }
 {
-    let settings = Settings::blank();
     Reading {
-        answer: Verdict::Refused(fault),
+        answer: Err(fault),
         place,
-        settings,
+        settings: Settings::blank(),
     }
 }
 
 // S25, R5: the end of a sheet, at a place.
+#[tactic(auto, unfolding(sheet::specs::Reading::closed))]
 pub fn close_sheet(settings: Settings, at: usize) -> Reading
     ensures { result ≡ closed settings at }
 {
@@ -83,35 +72,34 @@ pub fn close_sheet(settings: Settings, at: usize) -> Reading
         return refuse(Fault::Empty, 0);
     }
     Reading {
-        answer: Verdict::Accepted,
+        answer: Ok(()),
         place: at,
         settings,
     }
 }
 
 // The settings with one network more.
+// A changed copy: one slot is new, which a literal cannot say.
+#[tactic(auto, unfolding(sheet::specs::Reading::pushed))]
 pub fn push_network(settings: Settings, network: Network) -> Settings
     requires { settings.count < 8 }
     ensures { result ≡ pushed settings network }
 {
-    let count = settings.count;
     let mut next = settings;
-    next.networks[count as usize] = network;
-    next.count = count + 1;
+    next.networks[settings.count as usize] = network;
+    next.count += 1;
     next
 }
 
 // S27: the settings, of which the last network has field 07.
+// The index stays: by `last_mut` there would be a branch for no network, which never comes.
 pub fn amend_network(settings: Settings) -> Settings
     requires { 0 < settings.count }
     ensures { result ≡ amended settings }
 {
-    let networks = settings.networks;
-    let used = Settings::in_use(settings.count);
-    let last = (used - 1) as usize;
-    let network = networks[last];
+    let last = lists::in_use(&settings.networks, settings.count).len() - 1;
     let mut next = settings;
-    next.networks[last] = grammar::add_relation(network);
+    next.networks[last] = grammar::add_relation(settings.networks[last]);
     next
 }
 

@@ -1,11 +1,11 @@
 -- Laws of records in a lent buffer: what is written one after the other, room for it, and what is read back and turned.
-use Rattle.lists.proofs.Basics.{ℕ, zero, suc, ◌+◌, ◌*◌, ◌≤◌, ◌<◌, ◌≡◌, refl, sym, ◌∙◌, ap, subst, List, [], ◌∷◌, ◌++◌, arith, length, get_or, take, drop, set}
+use Rattle.lists.proofs.Basics.{ℕ, zero, suc, ◌+◌, ◌*◌, ◌≤◌, ◌<◌, ◌≡◌, refl, sym, ◌∙◌, ap, subst, List, [], ◌∷◌, ◌++◌, arith, add-one, length, get_or, take, drop, set}
 use Rattle.lists.proofs.Basics.{length-append, sets, length-sets, sets-eq, map, map-append, length-map, Bool, true, false, get_or-drop}
 use Rattle.lists.proofs.Basics.{drop-append_seam}
 use lib.Seq.{get_or-append-add}
 use Rattle.lists.proofs.Stores.{sets_append, run_more, length_within}
 use Rattle.records.specs.declared.Record.{Record}
-use Rattle.records.specs.Records.{handed, bytes, records_at, turned}
+use Rattle.records.specs.Records.{handed, bytes, record_at, records_at, turned}
 use Rattle.records.specs.Wrote.{stored, Wrote, Room, heeded}
 
 pub bytes_append : (xs ys : List Record) → bytes (xs ++ ys) ≡ bytes xs ++ bytes ys
@@ -97,10 +97,6 @@ unfolding records_at
 length_records zero b = refl
 length_records (suc k) b = ap suc (length_records k (drop 3 b))
 
--- record number k of a buffer
-abbrev record_at : ℕ → List ℕ → Record
-record_at k b = handed (get_or b (3 * k) 0) (get_or b (3 * k + 1) 0) (get_or b (3 * k + 2) 0)
-
 records_suc : (k : ℕ) (b : List ℕ) → records_at (suc k) b ≡ records_at k b ++ (record_at k b ∷ [])
 unfolding records_at
 records_suc zero b = refl
@@ -131,7 +127,7 @@ heed_begins b = wrote_none b 0
 
 -- one turn of the loop that reads record number k, and writes it back as it goes out
 pub heed_more : {b b₁ b₂ : List ℕ} {k n : ℕ} (r : Record) → 3 * (k + 1) ≤ length b → Wrote b b₁ 0 k (map (turned true) (records_at k b))
-    → r ≡ turned true (record_at k b₁) → Wrote b₁ b₂ k n (r ∷ []) → Wrote b b₂ 0 n (map (turned true) (records_at n b))
+    → r ≡ turned true (record_at k b₁) → Wrote b₁ b₂ k n (r ∷ []) → Wrote b b₂ 0 (k + 1) (map (turned true) (records_at (k + 1) b))
 heed_more {b} {b₁} {b₂} {k} {n} r room w e v =
     let rs = map (turned true) (records_at k b) in
     let long : length rs ≡ k = length-map (records_at k b) (turned true) ∙ length_records k b in
@@ -142,8 +138,8 @@ heed_more {b} {b₁} {b₂} {k} {n} r room w e v =
     let same : record_at k b₁ ≡ record_at k b = rw (first, read 1, read 2) refl in
     let more : map (turned true) (records_at k b ++ (record_at k b ∷ [])) ≡ rs ++ (r ∷ []) =
     map-append (turned true) (records_at k b) (record_at k b ∷ []) ∙ ap (λ (x : Record). rs ++ (x ∷ [])) (sym (e ∙ ap (turned true) same)) in
-    let next : n ≡ suc k = omega (arith, v.count) in
-    subst (λ (i : ℕ). Wrote b b₂ 0 n (map (turned true) (records_at i b))) (sym next) (rw (records_suc k b, more) (wrote_then w v))
+    let wrote : Wrote b b₂ 0 n (map (turned true) (records_at (suc k) b)) = rw (records_suc k b, more) (wrote_then w v) in
+    subst (λ (i : ℕ). Wrote b b₂ 0 i (map (turned true) (records_at (k + 1) b))) v.count (rw add-one wrote)
 
 -- the loop is over, or there was none
 pub heed_done : {b b₁ : List ℕ} {k : ℕ} → Wrote b b₁ 0 k (map (turned true) (records_at k b)) → b₁ ≡ heeded b k true

@@ -1,11 +1,11 @@
 -- The records that are handed out, and their bytes: the rules H1, H2, H5 to H12 and L2 of docs/RULES.md.
-use Rattle.std.specs.Prelude.{ℕ, zero, suc, List, [], ◌∷◌, Bool, ◌&&◌, cond, eqb, get_or, drop}
+use Rattle.std.specs.Prelude.{ℕ, zero, suc, ◌+◌, ◌*◌, List, [], ◌∷◌, Bool, ◌&&◌, cond, eqb, get_or, drop, Result, Ok, Err}
 use Rattle.records.specs.declared.Record.{Record}
 use Rattle.records.specs.declared.ControllerMode.{ControllerMode}
 use Rattle.records.specs.declared.TransceiverMode.{TransceiverMode}
 use Rattle.records.specs.declared.PduMode.{PduMode}
 use Rattle.records.specs.declared.Mode.{Mode}
-use Rattle.records.specs.declared.NamedMode.{NamedMode}
+use Rattle.records.specs.declared.UnknownMode.{UnknownMode}
 use Rattle.records.specs.declared.Notice.{Notice}
 use Rattle.records.specs.declared.EventStatus.{EventStatus}
 
@@ -32,15 +32,14 @@ mode_number Mode.Silent = 1
 mode_number Mode.Full = 2
 
 -- R13: the mode that a number names: 0, 1 and 2 name one, and no other does
-abbrev pub mode_named : ℕ → NamedMode
+abbrev pub mode_named : ℕ → Result Mode UnknownMode
 mode_named number =
-    cond (eqb number 0) (NamedMode.Known Mode.No)
-    (cond (eqb number 1) (NamedMode.Known Mode.Silent) (cond (eqb number 2) (NamedMode.Known Mode.Full) NamedMode.Unknown))
+    cond (eqb number 0) (Ok Mode.No) (cond (eqb number 1) (Ok Mode.Silent) (cond (eqb number 2) (Ok Mode.Full) (Err (record {}))))
 
 -- one of two, by whether a number names a mode
-abbrev pub by_named : {A : Type 0} → NamedMode → (Mode → A) → A → A
-by_named (NamedMode.Known mode) known unknown = known mode
-by_named NamedMode.Unknown known unknown = unknown
+abbrev pub by_named : {A : Type 0} → Result Mode UnknownMode → (Mode → A) → A → A
+by_named (Ok mode) known unknown = known mode
+by_named (Err e) known unknown = unknown
 
 -- H11: the number of each notice to the mode manager
 abbrev pub notice_number : Notice → ℕ
@@ -109,6 +108,10 @@ turned listening r = cond (listening && is_online r) (listens r.target) r
 unfoldable pub bytes : List Record → List ℕ
 bytes [] = []
 bytes (r ∷ rs) = r.kind ∷ r.target ∷ r.argument ∷ bytes rs
+
+-- H1, H2: record number k of a buffer
+abbrev pub record_at : ℕ → List ℕ → Record
+record_at k buffer = handed (get_or buffer (3 * k) 0) (get_or buffer (3 * k + 1) 0) (get_or buffer (3 * k + 2) 0)
 
 -- H1, H2: so many records, as they stand at the front of a lent buffer
 unfoldable pub records_at : ℕ → List ℕ → List Record

@@ -1,13 +1,13 @@
 // The records handed out: three bytes each, kind, target and argument, from the front of a lent buffer.
 #![tactic(auto)]
 
-ghost use Rattle.std.specs.Prelude.{◌*◌, ◌≤◌, ◌≡◌, [], ◌∷◌, true, length};
+ghost use Rattle.std.specs.Prelude.{◌+◌, ◌*◌, ◌≤◌, ◌≡◌, [], ◌∷◌, true, length};
 ghost use Rattle.records.specs.Records.{controller_number, transceiver_number, pdu_number, mode_number, mode_named, notice_number, status_number};
-ghost use Rattle.records.specs.Records.{controller_mode, transceiver_mode, pdu_mode, clear_wake, check_wake, tells, notes, reports, turned};
+ghost use Rattle.records.specs.Records.{handed, record_at, controller_mode, transceiver_mode, pdu_mode, clear_wake, check_wake, tells, notes, reports, turned};
 ghost use Rattle.records.specs.Wrote.{Room, Wrote, heeded};
 
-// H1: a record handed out.
-#[derive(Clone, Copy)]
+// H1: a record handed out. Stays three numbers: whatever three bytes stand in a buffer are read as one, so its kind need not be among the eight.
+#[derive(Clone, Copy, Debug, PartialEq, Eq)]
 pub struct Record {
     pub kind: u8,
     pub target: u8,
@@ -15,175 +15,134 @@ pub struct Record {
 }
 
 // H5: what a controller can be asked for.
-#[derive(Clone, Copy)]
+#[derive(Clone, Copy, Debug, PartialEq, Eq)]
 pub enum ControllerMode {
-    Stopped,
-    Started,
-    Sleep,
+    Stopped = 0,
+    Started = 1,
+    Sleep = 2,
 }
 
 impl ControllerMode {
-    pub const STOPPED: u8 = 0;
-
-    pub const STARTED: u8 = 1;
-
-    pub const SLEEP: u8 = 2;
     // The largest number that an answer may name.
-    pub const MOST_NUMBER: u8 = ControllerMode::SLEEP;
+    pub const MOST_NUMBER: u8 = ControllerMode::Sleep as u8;
+}
 
-    pub fn number(self) -> u8
-        ensures { result ≡ controller_number self }
-    {
-        match self {
-            ControllerMode::Stopped => ControllerMode::STOPPED,
-            ControllerMode::Started => ControllerMode::STARTED,
-            ControllerMode::Sleep => ControllerMode::SLEEP,
-        }
+impl From<ControllerMode> for u8 {
+    ghost from_gives = { λ mode number. number ≡ controller_number mode };
+
+    fn from(mode: ControllerMode) -> u8 {
+        mode as u8
     }
 }
 
 // H6: what a transceiver can be asked for.
-#[derive(Clone, Copy)]
+#[derive(Clone, Copy, Debug, PartialEq, Eq)]
 pub enum TransceiverMode {
-    Normal,
-    Standby,
+    Normal = 0,
+    Standby = 1,
 }
 
 impl TransceiverMode {
-    pub const NORMAL: u8 = 0;
-
-    pub const STANDBY: u8 = 1;
-    // The largest number that a report may name. No step asks for it.
+    // The largest number that a report may name. No step asks for it, so no variant has it.
     pub const MOST_NUMBER: u8 = 2;
+}
 
-    pub fn number(self) -> u8
-        ensures { result ≡ transceiver_number self }
-    {
-        match self {
-            TransceiverMode::Normal => TransceiverMode::NORMAL,
-            TransceiverMode::Standby => TransceiverMode::STANDBY,
-        }
+impl From<TransceiverMode> for u8 {
+    ghost from_gives = { λ mode number. number ≡ transceiver_number mode };
+
+    fn from(mode: TransceiverMode) -> u8 {
+        mode as u8
     }
 }
 
 // H7: the PDU mode of a controller.
-#[derive(Clone, Copy)]
+#[derive(Clone, Copy, Debug, PartialEq, Eq)]
 pub enum PduMode {
-    Online,
-    TxOffline,
+    Online = 0,
+    TxOffline = 1,
 }
 
 impl PduMode {
-    pub const ONLINE: u8 = 0;
-
-    pub const TX_OFFLINE: u8 = 1;
-    // L2: what online goes out as where the manager listens. No rule of a network asks for it.
+    // L2: what online goes out as where the manager listens. No rule of a network asks for it, so no variant has it.
     pub const TX_OFFLINE_ACTIVE: u8 = 2;
+}
 
-    pub fn number(self) -> u8
-        ensures { result ≡ pdu_number self }
-    {
-        match self {
-            PduMode::Online => PduMode::ONLINE,
-            PduMode::TxOffline => PduMode::TX_OFFLINE,
-        }
+impl From<PduMode> for u8 {
+    ghost from_gives = { λ mode number. number ≡ pdu_number mode };
+
+    fn from(mode: PduMode) -> u8 {
+        mode as u8
     }
 }
 
 // H10: a communication mode: wanted, told, polled.
-#[derive(Clone, Copy)]
+#[derive(Clone, Copy, Debug, PartialEq, Eq)]
 pub enum Mode {
-    No,
-    Silent,
-    Full,
+    No = 0,
+    Silent = 1,
+    Full = 2,
 }
 
-// The mode that a number names, if any.
-#[derive(Clone, Copy)]
-pub enum NamedMode {
-    Known(Mode),
-    Unknown,
-}
+// A number that names no mode.
+#[derive(Clone, Copy, Debug, PartialEq, Eq)]
+pub struct UnknownMode;
 
-impl Mode {
-    pub const NO: u8 = 0;
+// The mode with this number.
+impl TryFrom<u8> for Mode {
+    type Error = UnknownMode;
 
-    pub const SILENT: u8 = 1;
+    ghost try_from_gives = { λ number named. named ≡ mode_named number };
 
-    pub const FULL: u8 = 2;
-
-    // The mode with this number.
-    pub fn from_number(number: u8) -> NamedMode
-        ensures { result ≡ mode_named number }
-    {
+    fn try_from(number: u8) -> Result<Mode, UnknownMode> {
+        const NO: u8 = Mode::No as u8;
+        const SILENT: u8 = Mode::Silent as u8;
+        const FULL: u8 = Mode::Full as u8;
         match number {
-            Mode::NO => NamedMode::Known(Mode::No),
-            Mode::SILENT => NamedMode::Known(Mode::Silent),
-            Mode::FULL => NamedMode::Known(Mode::Full),
-            _ => NamedMode::Unknown,
+            NO => Ok(Mode::No),
+            SILENT => Ok(Mode::Silent),
+            FULL => Ok(Mode::Full),
+            _ => Err(UnknownMode),
         }
     }
+}
 
-    pub fn number(self) -> u8
-        ensures { result ≡ mode_number self }
-    {
-        match self {
-            Mode::No => Mode::NO,
-            Mode::Silent => Mode::SILENT,
-            Mode::Full => Mode::FULL,
-        }
+impl From<Mode> for u8 {
+    ghost from_gives = { λ mode number. number ≡ mode_number mode };
+
+    fn from(mode: Mode) -> u8 {
+        mode as u8
     }
 }
 
 // H11: what the mode manager is told.
-#[derive(Clone, Copy)]
+#[derive(Clone, Copy, Debug, PartialEq, Eq)]
 pub enum Notice {
-    No,
-    Silent,
-    Full,
-    BusOff,
+    No = 0,
+    Silent = 1,
+    Full = 2,
+    BusOff = 3,
 }
 
-impl Notice {
-    pub const NO: u8 = 0;
+impl From<Notice> for u8 {
+    ghost from_gives = { λ notice number. number ≡ notice_number notice };
 
-    pub const SILENT: u8 = 1;
-
-    pub const FULL: u8 = 2;
-
-    pub const BUS_OFF: u8 = 3;
-
-    pub fn number(self) -> u8
-        ensures { result ≡ notice_number self }
-    {
-        match self {
-            Notice::No => Notice::NO,
-            Notice::Silent => Notice::SILENT,
-            Notice::Full => Notice::FULL,
-            Notice::BusOff => Notice::BUS_OFF,
-        }
+    fn from(notice: Notice) -> u8 {
+        notice as u8
     }
 }
 
 // H12: what the event manager is told.
-#[derive(Clone, Copy)]
+#[derive(Clone, Copy, Debug, PartialEq, Eq)]
 pub enum EventStatus {
-    Passed,
-    Prefailed,
+    Passed = 0,
+    Prefailed = 1,
 }
 
-impl EventStatus {
-    pub const PASSED: u8 = 0;
+impl From<EventStatus> for u8 {
+    ghost from_gives = { λ status number. number ≡ status_number status };
 
-    pub const PREFAILED: u8 = 1;
-
-    pub fn number(self) -> u8
-        ensures { result ≡ status_number self }
-    {
-        match self {
-            EventStatus::Passed => EventStatus::PASSED,
-            EventStatus::Prefailed => EventStatus::PREFAILED,
-        }
+    fn from(status: EventStatus) -> u8 {
+        status as u8
     }
 }
 
@@ -209,108 +168,93 @@ impl Record {
     // H8, H9: the argument of the kinds that have none.
     pub const NOTHING: u8 = 0;
 
+    // A record by its three numbers, in one line.
+    fn new(kind: u8, target: u8, argument: u8) -> Record
+        ensures { result ≡ handed kind target argument }
+    {
+        Record {
+            kind,
+            target,
+            argument,
+        }
+    }
+
     pub fn controller_mode(id: u8, mode: ControllerMode) -> Record
         ensures { result ≡ controller_mode id mode }
     {
-        Record {
-            kind: Record::CONTROLLER_MODE,
-            target: id,
-            argument: mode.number(),
-        }
+        Record::new(Record::CONTROLLER_MODE, id, mode.into())
     }
 
     pub fn transceiver_mode(id: u8, mode: TransceiverMode) -> Record
         ensures { result ≡ transceiver_mode id mode }
     {
-        Record {
-            kind: Record::TRANSCEIVER_MODE,
-            target: id,
-            argument: mode.number(),
-        }
+        Record::new(Record::TRANSCEIVER_MODE, id, mode.into())
     }
 
     pub fn pdu_mode(id: u8, mode: PduMode) -> Record
         ensures { result ≡ pdu_mode id mode }
     {
-        Record {
-            kind: Record::PDU_MODE,
-            target: id,
-            argument: mode.number(),
-        }
+        Record::new(Record::PDU_MODE, id, mode.into())
     }
 
     pub fn clear_wake(id: u8) -> Record
         ensures { result ≡ clear_wake id }
     {
-        Record {
-            kind: Record::CLEAR_WAKE,
-            target: id,
-            argument: Record::NOTHING,
-        }
+        Record::new(Record::CLEAR_WAKE, id, Record::NOTHING)
     }
 
     pub fn check_wake(id: u8) -> Record
         ensures { result ≡ check_wake id }
     {
-        Record {
-            kind: Record::CHECK_WAKE,
-            target: id,
-            argument: Record::NOTHING,
-        }
+        Record::new(Record::CHECK_WAKE, id, Record::NOTHING)
     }
 
     // The communication manager is told a mode.
     pub fn tell(handle: u8, mode: Mode) -> Record
         ensures { result ≡ tells handle mode }
     {
-        Record {
-            kind: Record::COMMUNICATION,
-            target: handle,
-            argument: mode.number(),
-        }
+        Record::new(Record::COMMUNICATION, handle, mode.into())
     }
 
     // The mode manager is told.
     pub fn note(handle: u8, notice: Notice) -> Record
         ensures { result ≡ notes handle notice }
     {
-        Record {
-            kind: Record::MODES,
-            target: handle,
-            argument: notice.number(),
-        }
+        Record::new(Record::MODES, handle, notice.into())
     }
 
     // The event manager is told.
     pub fn report(handle: u8, status: EventStatus) -> Record
         ensures { result ≡ reports handle status }
     {
-        Record {
-            kind: Record::EVENTS,
-            target: handle,
-            argument: status.number(),
-        }
+        Record::new(Record::EVENTS, handle, status.into())
+    }
+
+    // H1, H2: record number k of a buffer.
+    pub fn read(buffer: &[u8], k: usize) -> Record
+        requires { 3 * (k + 1) ≤ length buffer.now }
+        ensures { result ≡ record_at k buffer.now }
+    {
+        let at = Record::SIZE * k;
+        Record::new(buffer[at], buffer[at + 1], buffer[at + 2])
     }
 
     // L2: the record as it goes out where the manager listens.
     fn turn(self) -> Record
         ensures { result ≡ turned true self }
     {
-        if self.kind == Record::PDU_MODE {
-            if self.argument == PduMode::ONLINE {
-                return Record {
-                    kind: Record::PDU_MODE,
-                    target: self.target,
-                    argument: PduMode::TX_OFFLINE_ACTIVE,
-                };
-            }
+        if self == Record::pdu_mode(self.target, PduMode::Online) {
+            return Record {
+                argument: PduMode::TX_OFFLINE_ACTIVE,
+                ..self
+            };
         }
         self
     }
 }
 
-// H1, H2: record number k of the lent buffer is now this one; the answer is the number of the next.
-pub fn put_record(out: &mut [u8], k: usize, handed: Record) -> usize
+// H1, H2: record number k of a buffer is now this one; the answer is the number of the next.
+fn put_record(out: &mut [u8], k: usize, handed: Record) -> usize
     requires { Room out.old k (handed ∷ []) }
     ensures { Wrote out.old out.new k result (handed ∷ []) }
 {
@@ -321,21 +265,35 @@ pub fn put_record(out: &mut [u8], k: usize, handed: Record) -> usize
     k + 1
 }
 
-// L2: the first records of the lent buffer go out as they do where the manager listens, or does not.
+// H2: a lent buffer, and how many records stand at its front.
+#[derive(Drop)]
+pub struct Tray<'a> {
+    pub out: &'a mut [u8],
+    pub count: usize,
+}
+
+impl<'a> Tray<'a> {
+    ghost use Rattle.records.specs.Tray.{HasRoom, Handed};
+
+    // H1, H2: one record more.
+    pub fn put(&mut self, handed: Record)
+        requires { HasRoom self.old (handed ∷ []) }
+        ensures { Handed self.old (handed ∷ []) self.new }
+    {
+        self.count = put_record(self.out, self.count, handed);
+    }
+}
+
+// L2: the first records of the lent buffer go out as they do where the manager listens, or does not. Stays a function on the buffer: the tray by
+// which they were handed out is over then.
 pub fn heed(out: &mut [u8], count: usize, listening: bool)
     requires { 3 * count ≤ length out.old }
     ensures { out.new ≡ heeded out.old count listening }
 {
     if listening {
-        let mut k: usize = 0;
-        while k < count {
-            let at = Record::SIZE * k;
-            let handed = Record {
-                kind: out[at],
-                target: out[at + 1],
-                argument: out[at + 2],
-            };
-            k = put_record(out, k, handed.turn());
+        for k in 0..count {
+            let handed = Record::read(out, k);
+            put_record(out, k, handed.turn());
         }
     }
 }

@@ -4,22 +4,20 @@ ghost use Rattle.sheet.specs.Writing.{buffer_after};
 ghost use Rattle.slots.specs.Manager.{settings_of};
 ghost use Rattle.slots.specs.Calls as calls;
 
-use settings::{Network, Settings};
-use sheet::{Reading, Written};
-use slots::{Answer, Manager, Outcome, Stage};
+use settings::Settings;
+use sheet::{Reading, TooShort};
+use slots::{CallRefusal, Manager, Outcome, Stage};
 
 // A manager with no sheet.
+#[tactic(auto, unfolding(settings::specs::Settings::blank_settings))]
 pub fn new() -> Manager
     ensures { result ≡ calls.new_manager }
 {
-    let network = Network::blank();
-    let state = slots::blank_state();
     Manager {
         stage: Stage::Empty,
         listening: false,
-        count: 0,
-        networks: [network; Settings::MOST_NETWORKS],
-        states: [state; Settings::MOST_NETWORKS],
+        settings: Settings::blank(),
+        states: [slots::blank_state(); Settings::MOST_NETWORKS],
     }
 }
 
@@ -27,14 +25,11 @@ pub fn new() -> Manager
 fn load(manager: Manager, settings: Settings) -> Manager
     ensures { result ≡ calls.loaded manager settings }
 {
-    let networks = settings.networks;
-    let state = slots::blank_state();
     Manager {
         stage: Stage::Loaded,
-        listening: manager.listening,
-        count: settings.count,
-        networks,
-        states: [state; Settings::MOST_NETWORKS],
+        settings,
+        states: [slots::blank_state(); Settings::MOST_NETWORKS],
+        ..manager
     }
 }
 
@@ -42,22 +37,15 @@ fn load(manager: Manager, settings: Settings) -> Manager
 fn after_reading(manager: Manager, reading: Reading) -> Outcome
     ensures { result ≡ calls.after_reading manager reading reading.answer }
 {
-    let answer = reading.answer;
-    let settings = reading.settings;
-    match answer {
-        sheet::Verdict::Accepted => Outcome {
-            answer: Answer::Accepted,
-            manager: load(manager, settings),
-            count: settings.count as usize,
-            mode: 0,
+    match reading.answer {
+        Ok(()) => Outcome {
+            count: reading.settings.count as usize,
             place: reading.place,
+            ..Outcome::accept(load(manager, reading.settings))
         },
-        sheet::Verdict::Refused(fault) => Outcome {
-            answer: Answer::Sheet(fault),
-            manager,
-            count: 0,
-            mode: 0,
+        Err(fault) => Outcome {
             place: reading.place,
+            ..Outcome::refuse(manager, CallRefusal::Sheet(fault))
         },
     }
 }
@@ -66,26 +54,21 @@ fn after_reading(manager: Manager, reading: Reading) -> Outcome
 pub fn read(manager: Manager, bytes: &[u8]) -> Outcome
     ensures { result ≡ calls.outcome manager (calls.read bytes.now) }
 {
-    let stage = manager.stage;
-    match stage {
-        Stage::Empty => after_reading(manager, reading::read(bytes)),
-        Stage::Loaded => after_reading(manager, reading::read(bytes)),
-        Stage::Started => Outcome::refuse(manager, Answer::Running),
+    match manager.stage {
+        Stage::Empty | Stage::Loaded => after_reading(manager, reading::read(bytes)),
+        Stage::Started => Outcome::refuse(manager, CallRefusal::Running),
     }
 }
 
-fn after_writing(manager: Manager, answer: Written) -> Outcome
+fn after_writing(manager: Manager, answer: Result<usize, TooShort>) -> Outcome
     ensures { result ≡ calls.after_writing manager answer }
 {
     match answer {
-        Written::Short => Outcome::refuse(manager, Answer::TooShort),
-        Written::Length(length) => Outcome {
-            answer: Answer::Accepted,
-            manager,
+        Ok(length) => Outcome {
             count: length,
-            mode: 0,
-            place: 0,
+            ..Outcome::accept(manager)
         },
+        Err(TooShort) => Outcome::refuse(manager, CallRefusal::TooShort),
     }
 }
 
@@ -93,23 +76,15 @@ fn write_sheet(manager: Manager, buffer: &mut [u8]) -> Outcome
     ensures { (result ≡ calls.writing_of manager (length buffer.old))
         × (buffer.new ≡ buffer_after (settings_of manager) buffer.old) }
 {
-    let networks = manager.networks;
-    let settings = Settings {
-        networks,
-        count: manager.count,
-    };
-    let answer = writing::write(settings, buffer);
-    after_writing(manager, answer)
+    after_writing(manager, writing::write(manager.settings, buffer))
 }
 
 // R7, R18, H4: writes the sheet into a lent buffer, before and after the start.
 pub fn write(manager: Manager, buffer: &mut [u8]) -> Outcome
     ensures { calls.Writes manager buffer.old result buffer.new }
 {
-    let stage = manager.stage;
-    match stage {
-        Stage::Empty => Outcome::refuse(manager, Answer::NotReady),
-        Stage::Loaded => write_sheet(manager, buffer),
-        Stage::Started => write_sheet(manager, buffer),
+    match manager.stage {
+        Stage::Empty => Outcome::refuse(manager, CallRefusal::NotReady),
+        Stage::Loaded | Stage::Started => write_sheet(manager, buffer),
     }
 }

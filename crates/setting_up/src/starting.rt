@@ -4,30 +4,23 @@ ghost use Rattle.slots.specs.Manager.{with_listening};
 ghost use Rattle.slots.specs.Calls as calls;
 
 use network::State;
-use settings::Settings;
-use slots::{Answer, Manager, Outcome, Stage};
+use slots::{CallRefusal, Manager, Outcome, Stage};
 
 // N7, N8: every network in its first down step.
 fn start_networks(manager: Manager) -> Manager
     ensures { result ≡ with_listening (calls.started_from manager) manager.listening }
 {
-    let listening = manager.listening;
-    let count = manager.count;
-    let networks = manager.networks;
     let mut states = manager.states;
-    let used = Settings::in_use(count);
-    let mut i: u8 = 0;
-    while i < used {
-        let network = networks[i as usize];
-        states[i as usize] = State::start(network);
-        i += 1;
+    for (i, network) in lists::in_use(&manager.settings.networks, manager.settings.count)
+        .iter()
+        .enumerate()
+    {
+        states[i] = State::start(*network);
     }
     Manager {
         stage: Stage::Started,
-        listening,
-        count,
-        networks,
         states,
+        ..manager
     }
 }
 
@@ -35,13 +28,9 @@ fn start_networks(manager: Manager) -> Manager
 pub fn start(manager: Manager) -> Outcome
     ensures { result ≡ calls.outcome manager calls.start }
 {
-    let stage = manager.stage;
-    match stage {
-        Stage::Empty => Outcome::refuse(manager, Answer::NotReady),
-        Stage::Loaded => {
-            let started = start_networks(manager);
-            Outcome::accept(started.with_listening(false))
-        }
-        Stage::Started => Outcome::refuse(manager, Answer::Running),
+    match manager.stage {
+        Stage::Empty => Outcome::refuse(manager, CallRefusal::NotReady),
+        Stage::Loaded => Outcome::accept(start_networks(manager).with_listening(false)),
+        Stage::Started => Outcome::refuse(manager, CallRefusal::Running),
     }
 }

@@ -5,8 +5,7 @@ use Rattle.lists.proofs.Basics.{append_snoc, length}
 use Rattle.lists.specs.Lists.{any}
 use Rattle.lists.proofs.Any.{any_append}
 use Rattle.lists.proofs.Parts.{padded_count}
-use Rattle.settings.specs.declared.Transceiver.{Transceiver}
-use Rattle.settings.specs.declared.Transceiver.TheVariants.{Absent, Present}
+use Rattle.std.specs.Prelude.{Option, None, Some}
 use Rattle.settings.specs.declared.Network.{Network}
 use Rattle.settings.specs.declared.Id.{Id}
 use Rattle.settings.specs.declared.Id.TheVariants.{OfNetwork, OfController, OfTransceiver}
@@ -72,10 +71,10 @@ used_handle x ns = used_all (OfNetwork x) handles_of x (λ n. sym (or-false _)) 
 pub used_controller : (x : ℕ) (ns : List Network) → used (OfController x) ns ≡ member x (all controllers_of ns)
 used_controller x ns = used_all (OfController x) controllers_of x (λ n. refl) ns
 
-has_listed : (x : ℕ) (t : Transceiver) → has_transceiver t x ≡ member x (listed t)
+has_listed : (x : ℕ) (t : Option ℕ) → has_transceiver t x ≡ member x (listed t)
 unfolding any
-has_listed x Absent = refl
-has_listed x (Present y) = sym (or-false _)
+has_listed x None = refl
+has_listed x (Some y) = sym (or-false _)
 
 pub used_transceiver : (x : ℕ) (ns : List Network) → used (OfTransceiver x) ns ≡ member x (all transceivers_of ns)
 used_transceiver x ns = used_all (OfTransceiver x) transceivers_of x (λ n. has_listed x n.transceiver) ns

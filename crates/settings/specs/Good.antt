@@ -1,8 +1,7 @@
 -- Settings that a sheet can say: every range of the table of fields, and no id twice. The rules S4 to S11 and S22 of docs/RULES.md. Unused slots are
 -- blank, so that settings have one form.
-use Rattle.std.specs.Prelude.{ℕ, ◌<◌, ◌≤◌, ◌≡◌, List, [], ◌∷◌, ◌++◌, true, false}
+use Rattle.std.specs.Prelude.{ℕ, ◌<◌, ◌≤◌, ◌≡◌, List, [], ◌∷◌, ◌++◌, true, false, None}
 use Rattle.lists.specs.Lists.{padded}
-use Rattle.settings.specs.declared.Transceiver.TheVariants.{Absent}
 use Rattle.settings.specs.declared.Network.{Network}
 use Rattle.settings.specs.declared.Settings.{Settings}
 use Rattle.settings.specs.Settings.{most_networks, most_controllers, controller_ids, transceiver_ids, thresholds, blank_network, networks_of}
@@ -40,7 +39,7 @@ pub record InRange (n : Network) : Type 0 where
   pub ensure : (0 < n.ensure) × (n.ensure < 65536)
   pub threshold : n.threshold < thresholds
   -- S9: partial networking needs a transceiver
-  pub partial : n.partial ≡ true → n.transceiver ≡ Absent → ⊥
+  pub partial : n.partial ≡ true → n.transceiver ≡ None → ⊥
 
 -- every network of a list is in range
 unfoldable pub EachInRange : List Network → Type 0

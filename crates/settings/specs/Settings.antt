@@ -1,17 +1,13 @@
 -- What the settings say: how many and how large ids may be, which ids a network has, and who has an id. The rules S4 to S6, S8, S10, S14, S21, S22
 -- and S27 of docs/RULES.md.
 -- What an array holds past its count is blank and means nothing: all meaning is through `controllers_of` and `networks_of`.
-use Rattle.std.specs.Prelude.{ℕ, List, [], ◌∷◌, Bool, false, cond, eqb, take, replicate}
+use Rattle.std.specs.Prelude.{ℕ, Option, Some, None, List, [], ◌∷◌, Bool, false, cond, eqb, take, replicate}
 use Rattle.lists.specs.Lists.{any, first}
-use Rattle.settings.specs.declared.Transceiver.{Transceiver}
-use Rattle.settings.specs.declared.Transceiver.TheVariants.{Absent, Present}
 use Rattle.settings.specs.declared.Relation.TheVariants.{Above}
 use Rattle.settings.specs.declared.Network.{Network}
 use Rattle.settings.specs.declared.Settings.{Settings}
 use Rattle.settings.specs.declared.Id.{Id}
 use Rattle.settings.specs.declared.Id.TheVariants.{OfNetwork, OfController, OfTransceiver}
-use Rattle.settings.specs.declared.Holder.{Holder}
-use Rattle.settings.specs.declared.Holder.TheVariants.{At, Nobody}
 
 -- S22: a sheet has eight networks at most
 abbrev pub most_networks : ℕ
@@ -40,7 +36,7 @@ blank_network =
       handle = 0;
       controllers = replicate most_controllers 0;
       count = 0;
-      transceiver = Absent;
+      transceiver = None;
       short = 0;
       long = 0;
       ensure = 0;
@@ -66,9 +62,9 @@ abbrev pub controllers_of : Network → List ℕ
 controllers_of n = take n.count n.controllers
 
 -- S6: a transceiver may be missing, so there is no id, or one
-abbrev pub listed : Transceiver → List ℕ
-listed Absent = []
-listed (Present x) = x ∷ []
+abbrev pub listed : Option ℕ → List ℕ
+listed None = []
+listed (Some x) = x ∷ []
 
 -- S6: the id of a network's transceiver, as a list of none or one
 abbrev pub transceivers_of : Network → List ℕ
@@ -79,9 +75,9 @@ abbrev pub member : ℕ → List ℕ → Bool
 member x l = any (λ (y : ℕ). eqb y x) l
 
 -- a network without transceiver has no transceiver id, not even 0
-abbrev pub has_transceiver : Transceiver → ℕ → Bool
-has_transceiver Absent x = false
-has_transceiver (Present y) x = eqb y x
+abbrev pub has_transceiver : Option ℕ → ℕ → Bool
+has_transceiver None x = false
+has_transceiver (Some y) x = eqb y x
 
 -- S10: a network has an id; each of the three kinds is compared with its own
 abbrev pub has : Id → Network → Bool
@@ -94,5 +90,5 @@ unfoldable pub used : Id → List Network → Bool
 used id ns = any (has id) ns
 
 -- the first network that has an id, or nobody
-unfoldable pub holder_of : Id → List Network → Holder
-holder_of id ns = cond (any (has id) ns) (At (first (has id) ns)) Nobody
+unfoldable pub holder_of : Id → List Network → Option ℕ
+holder_of id ns = cond (any (has id) ns) (Some (first (has id) ns)) None

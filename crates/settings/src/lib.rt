@@ -1,24 +1,18 @@
 // The settings: what a sheet says of its networks, the limits, and which network has an id.
 #![tactic(auto)]
 
-ghost use Rattle.std.specs.Prelude.{◌≡◌, min};
+ghost use Rattle.std.specs.Prelude.{ℕ, Some, position, ◌≡◌, ◌<◌};
 ghost use Rattle.settings.specs.Settings.{blank_network, blank_settings, member, controllers_of, has_transceiver, has, networks_of, used, holder_of};
 
-// S6: the transceiver of a network, which may be missing.
-#[derive(Clone, Copy)]
-pub enum Transceiver {
-    Absent,
-    Present(u8),
-}
-
 // S27: how the bus-offs that were counted are held against the threshold: the long delay comes above it, or at it already.
-#[derive(Clone, Copy)]
+#[derive(Clone, Copy, Debug, PartialEq, Eq)]
 pub enum Relation {
     Above,
     AtOrAbove,
 }
 
 // S4 to S9, S27: what the sheet says of one network.
+// Stays slots and a count, as the settings do: there is no heap, and `controllers_of` and `networks_of` say which are in use.
 #[derive(Clone, Copy)]
 pub struct Network {
     pub handle: u8,
@@ -26,18 +20,19 @@ pub struct Network {
     pub controllers: [u8; Network::MOST_CONTROLLERS],
     // How many controllers it has.
     pub count: u8,
-    pub transceiver: Transceiver,
-    // The short and the long delay and the ensure time, in ticks.
+    // S6: the id of its transceiver, which may be missing.
+    pub transceiver: Option<u8>,
+    // The short and the long delay and the ensure time, in ticks. They stay three fields: definitions and theorems name each.
     pub short: u16,
     pub long: u16,
     pub ensure: u16,
     pub threshold: u8,
-    // With partial networking.
+    // With partial networking. It stays a flag beside the transceiver: two fields of a sheet say them, and definitions name each.
     pub partial: bool,
     pub relation: Relation,
 }
 
-// The networks of a sheet, in its order; unused slots are blank.
+// The networks of a sheet, in its order; unused slots are blank. Stays slots and a count, as `Network`.
 #[derive(Clone, Copy)]
 pub struct Settings {
     pub networks: [Network; Settings::MOST_NETWORKS],
@@ -45,18 +40,11 @@ pub struct Settings {
 }
 
 // S10: an id of one of the three kinds. Each kind has numbers of its own.
-#[derive(Clone, Copy)]
+#[derive(Clone, Copy, Debug, PartialEq, Eq)]
 pub enum Id {
     OfNetwork(u8),
     OfController(u8),
     OfTransceiver(u8),
-}
-
-// Which network of the settings has an id: the one at this place, the first being 0.
-#[derive(Clone, Copy)]
-pub enum Holder {
-    At(u8),
-    Nobody,
 }
 
 impl Network {
@@ -73,6 +61,7 @@ impl Network {
     // S7: no delay and no ensure time is this.
     pub const NO_TIME: u16 = 0;
 
+    #[tactic(auto, unfolding(crate::specs::Settings::blank_network))]
     pub fn blank() -> Network
         ensures { result ≡ blank_network }
     {
@@ -80,7 +69,7 @@ impl Network {
             handle: 0,
             controllers: [0; Network::MOST_CONTROLLERS],
             count: 0,
-            transceiver: Transceiver::Absent,
+            transceiver: None,
             short: 0,
             long: 0,
             ensure: 0,
@@ -90,39 +79,16 @@ impl Network {
         }
     }
 
-    // How many slots for controllers a count uses, never more than there are.
-    pub fn in_use(count: u8) -> u8
-        ensures { result ≡ min count 4 }
-    {
-        if (count as usize) < Network::MOST_CONTROLLERS {
-            return count;
-        }
-        Network::MOST_CONTROLLERS as u8
-    }
-
     fn has_controller(self, id: u8) -> bool
         ensures { result ≡ member id (controllers_of self) }
     {
-        let ids = self.controllers;
-        let used = Network::in_use(self.count);
-        let mut i: u8 = 0;
-        while i < used {
-            if ids[i as usize] == id {
-                return true;
-            }
-            i += 1;
-        }
-        false
+        lists::in_use(&self.controllers, self.count).contains(&id)
     }
 
     fn has_transceiver(self, id: u8) -> bool
         ensures { result ≡ has_transceiver self.transceiver id }
     {
-        let fitted = self.transceiver;
-        match fitted {
-            Transceiver::Absent => false,
-            Transceiver::Present(number) => number == id,
-        }
+        self.transceiver == Some(id)
     }
 
     // The network has this id.
@@ -143,47 +109,34 @@ impl Settings {
     pub fn blank() -> Settings
         ensures { result ≡ blank_settings }
     {
-        let network = Network::blank();
         Settings {
-            networks: [network; Settings::MOST_NETWORKS],
+            networks: [Network::blank(); Settings::MOST_NETWORKS],
             count: 0,
         }
     }
 
-    // How many slots for networks a count uses, never more than there are.
-    pub fn in_use(count: u8) -> u8
-        ensures { result ≡ min count 8 }
+    // The place of the first network that has this id, in the library's words.
+    fn place_of(&self, id: Id) -> Option<usize>
+        ensures found { result ≡ position (has id) (networks_of self.now) }
+        ensures below { (i : ℕ) → result ≡ Some i → i < 8 }
     {
-        if (count as usize) < Settings::MOST_NETWORKS {
-            return count;
-        }
-        Settings::MOST_NETWORKS as u8
+        lists::in_use(&self.networks, self.count)
+            .iter()
+            .position(|network| network.has(id))
     }
 
     // The first network that has this id.
-    pub fn holder(self, id: Id) -> Holder
-        ensures { result ≡ holder_of id (networks_of self) }
+    pub fn holder(&self, id: Id) -> Option<usize>
+        ensures found { result ≡ holder_of id (networks_of self.now) }
+        ensures below { (i : ℕ) → result ≡ Some i → i < 8 }
     {
-        let networks = self.networks;
-        let used = Settings::in_use(self.count);
-        let mut i: u8 = 0;
-        while i < used {
-            let network = networks[i as usize];
-            if network.has(id) {
-                return Holder::At(i);
-            }
-            i += 1;
-        }
-        Holder::Nobody
+        self.place_of(id)
     }
 
     // Some network has this id.
-    pub fn uses(self, id: Id) -> bool
-        ensures { result ≡ used id (networks_of self) }
+    pub fn uses(&self, id: Id) -> bool
+        ensures { result ≡ used id (networks_of self.now) }
     {
-        match self.holder(id) {
-            Holder::At(_) => true,
-            Holder::Nobody => false,
-        }
+        self.holder(id).is_some()
     }
 }

@@ -18,21 +18,19 @@ use Rattle.entries.specs.declared.Fault.TheVariants.{Empty}
 use Rattle.entries.specs.declared.Entry.{Entry}
 use Rattle.entries.specs.declared.Entry.TheVariants.{End, Bad}
 use Rattle.entries.specs.declared.Layout.{Layout}
-use Rattle.entries.specs.declared.Layout.TheVariants.{Unknown, Wrong, Byte}
+use Rattle.entries.specs.declared.Layout.TheVariants.{Byte}
+use Rattle.std.specs.Prelude.{Result, Ok, Err, Option, Some, None}
 use Rattle.entries.specs.declared.Progress.{Progress}
 use Rattle.entries.specs.declared.Progress.TheVariants.{Named}
 use Rattle.entries.specs.declared.Opening.{Opening}
-use Rattle.entries.specs.declared.Opening.TheVariants.{Closes, Begins, Refuses, Amends}
-use Rattle.entries.specs.declared.Filling.{Filling}
-use Rattle.entries.specs.declared.Filling.TheVariants.{More}
+use Rattle.entries.specs.declared.Opening.TheVariants.{Closes, Begins, Amends}
 use Rattle.entries.specs.declared.Filled.{Filled}
-use Rattle.sheet.specs.declared.Verdict.{Verdict}
 use Rattle.sheet.specs.declared.Reading.{Reading}
 use Rattle.entries.specs.Entries.{layout_of, overrun_fault, wide, byte_entry, times_entry, whole_entry, field_entry}
 use Rattle.entries.specs.Grammar.{opens_with, takes_relation, on_relation, opens, begun, takes_controller, takes_transceiver, takes_times, takes_threshold}
 use Rattle.entries.specs.Grammar.{takes_partial, present, on_controller, on_transceiver, on_times, on_threshold, on_partial, fills}
 use Rattle.entries.proofs.Laws.{value_byte, value_wide, Says, layout_says, some_before}
-use Rattle.sheet.specs.Reading.{pushed, amended, first_zero, place_of, refused_at, closed, after_opening, after_filling, sheet, network, read_from}
+use Rattle.sheet.specs.Reading.{pushed, amended, first_zero, place_of, refused_at, closed, after_opening, after_field, after_filling, sheet, network, read_from}
 use Rattle.sheet.specs.Reading.{decode}
 use Rattle.sheet.specs.Pointing.{controller_id, transceiver_id, short_delay, long_delay, ensure_time, threshold, partial_networking, relation}
 use Rattle.sheet.specs.Pointing.{right_length, WholeField, CutField, UnknownField, LengthHere, BadNumber, NumberHere, Points, Within}
@@ -94,11 +92,12 @@ module _ (s : List ℕ) (at : ℕ) where
         }
 
     -- a field whose value runs past the end
-    overrun_points : length s < at + 3 + n → (layout : Layout) → Says tag n layout → Found (Bad (overrun_fault layout))
-    overrun_points few Unknown u = unknown_here u
-    overrun_points few Wrong w = wrong_here w
-    overrun_points few Byte b = cut_here few (b.1, b.2) (rw (ne_eqb tag 4 b.3, b.0) refl)
-    overrun_points few Layout.Times b = cut_here few (let t = b.1 in (omega arith, omega arith)) (rw (b.1, b.0) refl)
+    overrun_points : length s < at + 3 + n → (layout : Result Layout Fault) → Says tag n layout → Found (Bad (overrun_fault layout))
+    overrun_points few (Err UnknownTag) u = unknown_here u
+    overrun_points few (Err WrongLength) w = wrong_here w
+    overrun_points few (Err fault) n = absurd n
+    overrun_points few (Ok Byte) b = cut_here few (b.1, b.2) (rw (ne_eqb tag 4 b.3, b.0) refl)
+    overrun_points few (Ok Layout.Times) b = cut_here few (let t = b.1 in (omega arith, omega arith)) (rw (b.1, b.0) refl)
 
   module _ (tag : ℕ) (v : List ℕ) (g : Valued s at tag v) where
     right_here : (1 ≤ tag) × (tag ≤ 7) → length v ≡ cond (eqb tag 4) 6 1 → WholeField s at
@@ -111,7 +110,7 @@ module _ (s : List ℕ) (at : ℕ) where
           within = let w = g.within in rw (← t, ← right) w;
         }
 
-    one_byte : (k : ℕ) → eqb tag k ≡ true → Says tag (length v) Byte → OneByte k (get_or v 0 0)
+    one_byte : (k : ℕ) → eqb tag k ≡ true → Says tag (length v) (Ok Byte) → OneByte k (get_or v 0 0)
     one_byte k a b =
         let other : eqb tag 4 ≡ false = ne_eqb tag 4 b.3 in
         let right : length v ≡ cond (eqb tag 4) 6 1 = rw (other, b.0) refl in
@@ -123,7 +122,7 @@ module _ (s : List ℕ) (at : ℕ) where
               ∙ value_byte s (at + 3) (length v) 0 (let m = b.0 in omega arith) ∙ ap (λ (i : ℕ). get_or s i 0) zero;
         }
 
-    three_times : Says tag (length v) Layout.Times → ThreeTimes (wide v 0) (wide v 2) (wide v 4)
+    three_times : Says tag (length v) (Ok Layout.Times) → ThreeTimes (wide v 0) (wide v 2) (wide v 4)
     three_times b =
         let right : length v ≡ cond (eqb tag 4) 6 1 = rw (b.1, b.0) refl in
         let value : v ≡ take 6 (drop (at + 3) s) = g.value ∙ ap (λ (m : ℕ). take m (drop (at + 3) s)) b.0 in
@@ -137,11 +136,12 @@ module _ (s : List ℕ) (at : ℕ) where
           ensure = number 4 (at + 7) (omega arith) (omega arith);
         }
 
-    found_by : (layout : Layout) → Says tag (length v) layout → Found (whole_entry layout tag v)
+    found_by : (layout : Result Layout Fault) → Says tag (length v) layout → Found (whole_entry layout tag v)
     unfolding whole_entry byte_entry times_entry
-    found_by Unknown u = unknown_here tag (length v) g.headed u
-    found_by Wrong w = wrong_here tag (length v) g.headed w
-    found_by Byte b =
+    found_by (Err UnknownTag) u = unknown_here tag (length v) g.headed u
+    found_by (Err WrongLength) w = wrong_here tag (length v) g.headed w
+    found_by (Err fault) n = absurd n
+    found_by (Ok Byte) b =
         split Found (eqb tag 1) (λ a. one_byte 1 a b)
         (λ a. split Found (eqb tag 2) (λ d. one_byte 2 d b)
         (λ d. split Found (eqb tag 3) (λ e. one_byte 3 e b)
@@ -158,7 +158,7 @@ module _ (s : List ℕ) (at : ℕ) where
           eqb-false tag 5 f,
           eqb-false tag 6 i,
         ))) b)))))
-    found_by Layout.Times b = three_times b
+    found_by (Ok Layout.Times) b = three_times b
 
     found : Found (field_entry tag v)
     unfolding field_entry
@@ -175,11 +175,11 @@ module _ (s : List ℕ) (at : ℕ) (S : Settings) where
   only_number f number = number_at (at + 3 + 0) (at + 3) (omega arith) f.whole number
 
   -- where a network may begin
-  abbrev OpeningPoints : Entry → Opening → Type 0
-  OpeningPoints entry Closes = ⊥
-  OpeningPoints entry (Begins handle) = Unit
-  OpeningPoints entry (Refuses fault) = Points fault s (place_of fault entry at)
-  OpeningPoints entry Amends = 0 < S.count
+  abbrev OpeningPoints : Entry → Result Opening Fault → Type 0
+  OpeningPoints entry (Ok Closes) = ⊥
+  OpeningPoints entry (Ok (Begins handle)) = Unit
+  OpeningPoints entry (Ok Amends) = 0 < S.count
+  OpeningPoints entry (Err fault) = Points fault s (place_of fault entry at)
 
   opening_points : (entry : Entry) → Found s at entry → OpeningPoints entry (opens S entry)
   unfolding opens opens_with on_relation
@@ -204,13 +204,9 @@ module _ (s : List ℕ) (at : ℕ) (S : Settings) where
 
   -- within a network
   module _ (N : Network) (P : Progress) where
-    abbrev FillingPoints : Entry → Filling → Type 0
-    FillingPoints entry (More progress) = Unit
-    FillingPoints entry Filling.Whole = Unit
-    FillingPoints entry (Filling.Refused fault) = Points fault s (place_of fault entry at)
-
-    abbrev FilledPoints : Entry → Filled → Type 0
-    FilledPoints entry m = FillingPoints entry m.filling
+    abbrev FilledPoints : Entry → Result Filled Fault → Type 0
+    FilledPoints entry (Ok filled) = Unit
+    FilledPoints entry (Err fault) = Points fault s (place_of fault entry at)
 
     controller_points : (x : ℕ) → OneByte s at 0x02 x → FilledPoints (Entry.Controller x) (on_controller S N P x)
     unfolding on_controller
@@ -291,7 +287,7 @@ module _ (s : List ℕ) (at : ℕ) (S : Settings) where
 module _ (s : List ℕ) where
   -- of a reading that is refused
   abbrev Right : Reading → Type 0
-  Right d = (fault : Fault) → d.answer ≡ Verdict.Refused fault → Points fault s d.place
+  Right d = (fault : Fault) → d.answer ≡ Err fault → Points fault s d.place
 
   refused_right : (fault : Fault) (place : ℕ) → Points fault s place → Right (refused_at fault place)
   unfolding refused_at
@@ -301,7 +297,7 @@ module _ (s : List ℕ) where
   unfolding closed
   closed_right S at none =
       split Right (eqb S.count 0) (λ a. refused_right Empty 0 (none (eqb-true S.count 0 a), refl))
-      (λ _ fault e. absurd (let z : ◌≡◌ {A = ℕ} 0 1 = cc in omega arith))
+      (λ _ fault e. absurd cc)
 
   -- where there is no network yet, no byte was read before the end
   abbrev NoneYet : Settings → Row → Type 0
@@ -337,21 +333,26 @@ module _ (s : List ℕ) where
   abbrev NetworkRight : Row → Type 0
   NetworkRight row = (S : Settings) (N : Network) (P : Progress) → Right (network row S N P)
 
-  after_opening_lem : (at : ℕ) (rest : Row) (S : Settings) (entry : Entry) (o : Opening) → OpeningPoints s at S entry o → NetworkRight rest
+  after_opening_lem : (at : ℕ) (rest : Row) (S : Settings) (entry : Entry) (o : Result Opening Fault) → OpeningPoints s at S entry o → NetworkRight rest
       → SheetRight rest → Right (after_opening o S entry at (λ handle. network rest S (begun handle) Named) (λ more. sheet rest more))
   unfolding after_opening amended
-  after_opening_lem at rest S entry Closes p net sh = absurd p
-  after_opening_lem at rest S entry (Begins handle) p net sh = net S (begun handle) Named
-  after_opening_lem at rest S entry (Refuses fault) p net sh = refused_right fault (place_of fault entry at) p
-  after_opening_lem at rest S entry Amends p net sh = sh (amended S) (some_network (amended S) rest p)
+  after_opening_lem at rest S entry (Ok Closes) p net sh = absurd p
+  after_opening_lem at rest S entry (Ok (Begins handle)) p net sh = net S (begun handle) Named
+  after_opening_lem at rest S entry (Err fault) p net sh = refused_right fault (place_of fault entry at) p
+  after_opening_lem at rest S entry (Ok Amends) p net sh = sh (amended S) (some_network (amended S) rest p)
 
-  after_filling_lem : (at : ℕ) (rest : Row) (S : Settings) (N : Network) (P : Progress) (entry : Entry) (to : Filling) (m : Network)
-      → FillingPoints s at S N P entry to → NetworkRight rest → SheetRight rest
-      → Right (after_filling to m entry at (λ n next. network rest S n next) (λ n. sheet rest (pushed S n)))
-  unfolding after_filling pushed
-  after_filling_lem at rest S N P entry (More progress) m p net sh = net S m progress
-  after_filling_lem at rest S N P entry Filling.Whole m p net sh = sh (pushed S m) (some_network (pushed S m) rest (omega arith))
-  after_filling_lem at rest S N P entry (Filling.Refused fault) m p net sh = refused_right fault (place_of fault entry at) p
+  after_field_lem : (rest : Row) (S : Settings) (progress : Option Progress) (m : Network) → NetworkRight rest → SheetRight rest
+      → Right (after_field progress m (λ n next. network rest S n next) (λ n. sheet rest (pushed S n)))
+  unfolding pushed
+  after_field_lem rest S (Some progress) m net sh = net S m progress
+  after_field_lem rest S None m net sh = sh (pushed S m) (some_network (pushed S m) rest (omega arith))
+
+  after_filling_lem : (at : ℕ) (rest : Row) (S : Settings) (N : Network) (P : Progress) (entry : Entry) (to : Result Filled Fault)
+      → FilledPoints s at S N P entry to → NetworkRight rest → SheetRight rest
+      → Right (after_filling to entry at (λ n next. network rest S n next) (λ n. sheet rest (pushed S n)))
+  unfolding after_filling
+  after_filling_lem at rest S N P entry (Ok filled) p net sh = after_field_lem rest S filled.progress filled.network net sh
+  after_filling_lem at rest S N P entry (Err fault) p net sh = refused_right fault (place_of fault entry at) p
 
   mutual
     unfolding sheet network
@@ -371,7 +372,7 @@ module _ (s : List ℕ) where
     network_right (overrun at tag n) l = λ S N P. refused_right (overrun_fault (layout_of tag n)) _ (overrun_right at tag n l)
     network_right (field at tag v rest) l = λ S N P.
         let entry = field_entry tag v in
-        after_filling_lem at rest S N P entry (fills S N P entry).filling (fills S N P entry).network
+        after_filling_lem at rest S N P entry (fills S N P entry)
         (filling_points s at S N P entry (found s at tag v l.0)) (network_right rest l.1) (sheet_right rest l.1)
 
   -- where the row of all the bytes is at its end at once, there is no byte
@@ -382,7 +383,7 @@ module _ (s : List ℕ) where
   first_end S (Whole tag n next) e = tt
 
   -- ---- the whole sheet
-  pub refused_points : (fault : Fault) → (decode s).answer ≡ Verdict.Refused fault → Points fault s (decode s).place
+  pub refused_points : (fault : Fault) → (decode s).answer ≡ Err fault → Points fault s (decode s).place
   unfolding read_from
   refused_points =
       sheet_right (row_at s 0) (laid_out s) blank_settings

@@ -5,16 +5,14 @@ use Rattle.lists.proofs.Basics.{false, false≢true, cond, eqb, leb, length, get
 use Rattle.lists.specs.Lists.{padded, Bytes}
 use mathlib.Core.Path.{fun_ext}
 use Rattle.lists.proofs.Tests.{split}
-use Rattle.lists.proofs.Any.{any_append_none, Ending, ending}
+use Rattle.lists.proofs.Any.{any_append_none, ending}
 use Rattle.lists.proofs.Parts.{take_set_more, padded_set, padded_length}
 use Rattle.fields.specs.Fields.{Row, stop, stub, overrun, field, row_at, field_bytes}
 use Rattle.fields.proofs.Laws.{bytes_of, Ends, ByteRow, bytes_back, bytes_row, two_bytes}
-use Rattle.settings.specs.declared.Transceiver.{Transceiver}
-use Rattle.settings.specs.declared.Transceiver.TheVariants.{Absent, Present}
+use Rattle.std.specs.Prelude.{Option, None, Some, Result, Ok, Err}
 use Rattle.settings.specs.declared.Relation.{Relation}
 use Rattle.settings.specs.declared.Relation.TheVariants.{Above, AtOrAbove}
 use Rattle.settings.specs.declared.Network.{Network}
-use Rattle.settings.specs.declared.Settings.{Settings}
 use Rattle.settings.specs.declared.Id.TheVariants.{OfNetwork, OfController, OfTransceiver}
 use Rattle.settings.specs.Settings.{blank_network, blank_settings, networks_of, handles_of, controllers_of, transceivers_of, listed, member, has, used}
 use Rattle.settings.specs.Good.{Below, Fresh, Distinct, all, InRange, EachInRange, Good}
@@ -25,20 +23,17 @@ use Rattle.entries.specs.declared.Fault.TheVariants.{Cut, Empty}
 use Rattle.entries.specs.declared.Entry.{Entry}
 use Rattle.entries.specs.declared.Entry.TheVariants.{End, Bad}
 use Rattle.entries.specs.declared.Layout.{Layout}
-use Rattle.entries.specs.declared.Layout.TheVariants.{Unknown, Wrong, Byte}
+use Rattle.entries.specs.declared.Layout.TheVariants.{Byte}
 use Rattle.entries.specs.declared.Progress.{Progress}
 use Rattle.entries.specs.declared.Progress.TheVariants.{Named, Listed, Fitted, Timed, Limited}
 use Rattle.entries.specs.declared.Opening.{Opening}
-use Rattle.entries.specs.declared.Opening.TheVariants.{Closes, Begins, Refuses, Amends}
-use Rattle.entries.specs.declared.Filling.{Filling}
-use Rattle.entries.specs.declared.Filling.TheVariants.{More, Whole}
+use Rattle.entries.specs.declared.Opening.TheVariants.{Closes, Begins, Amends}
 use Rattle.entries.specs.declared.Filled.{Filled}
-use Rattle.sheet.specs.declared.Verdict.TheVariants.{Accepted}
 use Rattle.sheet.specs.declared.Reading.{Reading}
 use Rattle.entries.specs.Entries.{layout_of, overrun_fault, byte_entry, times_entry, whole_entry, field_entry}
 use Rattle.entries.specs.Grammar.{opens_with, is_above, takes_relation, on_relation, add_relation, opens, begun, present, add_controller, add_transceiver}
 use Rattle.entries.specs.Grammar.{add_times, add_threshold, add_partial, on_controller, on_transceiver, on_times, on_threshold, on_partial, fills}
-use Rattle.sheet.specs.Reading.{pushed, amended, place_of, refused_at, closed, after_opening, after_filling, sheet, network, read_from, decode}
+use Rattle.sheet.specs.Reading.{pushed, amended, place_of, refused_at, closed, after_opening, after_field, after_filling, sheet, network, read_from, decode}
 use Rattle.sheet.specs.Encode.{byte_field, times_field, encode_controllers, encode_transceiver, encode_relation, encode_network, encode_networks, encode}
 use Rattle.entries.proofs.Laws.{Says, layout_says}
 use Rattle.sheet.proofs.Writes.{controllers_onto, networks_onto}
@@ -103,12 +98,11 @@ one_means tag [] w n low high four = absurd (omega arith)
 one_means tag (x ∷ []) w n low high four = byte_means tag x w.0 low high four
 one_means tag (x ∷ y ∷ v) w n low high four = absurd (omega arith)
 
-by_layout : (tag : ℕ) (v : List ℕ) (layout : Layout) → Says tag (length v) layout → Bytes v → Means tag v (whole_entry layout tag v)
+by_layout : (tag : ℕ) (v : List ℕ) (layout : Result Layout Fault) → Says tag (length v) layout → Bytes v → Means tag v (whole_entry layout tag v)
 unfolding whole_entry
-by_layout tag v Unknown s w = tt
-by_layout tag v Wrong s w = tt
-by_layout tag v Byte s w = one_means tag v w s.0 s.1 s.2 s.3
-by_layout tag v Layout.Times s w = times_means tag v w s.0 s.1
+by_layout tag v (Err fault) s w = tt
+by_layout tag v (Ok Byte) s w = one_means tag v w s.0 s.1 s.2 s.3
+by_layout tag v (Ok Layout.Times) s w = times_means tag v w s.0 s.1
 
 entry_means : (tag : ℕ) (v : List ℕ) → Bytes v → Means tag v (field_entry tag v)
 unfolding field_entry
@@ -125,15 +119,15 @@ record Base (ns : List Network) (n : Network) : Type 0 where
   fresh : Fresh (all controllers_of ns) (controllers_of n)
   older : n.relation ≡ Above
 
-abbrev Link : List Network → Transceiver → Type 0
+abbrev Link : List Network → Option ℕ → Type 0
 Link ns t = Below 8 (listed t) × Fresh (all transceivers_of ns) (listed t)
 
 abbrev Timing : Network → Type 0
 Timing n = ((0 < n.short) × (n.short < 65536)) × ((0 < n.long) × (n.long < 65536)) × ((0 < n.ensure) × (n.ensure < 65536))
 
 abbrev Part : List Network → Progress → Network → Type 0
-Part ns Named n = Base ns n × (n.transceiver ≡ Absent)
-Part ns Listed n = Base ns n × (n.transceiver ≡ Absent) × (0 < n.count)
+Part ns Named n = Base ns n × (n.transceiver ≡ None)
+Part ns Listed n = Base ns n × (n.transceiver ≡ None) × (0 < n.count)
 Part ns Fitted n = Base ns n × Link ns n.transceiver × (0 < n.count)
 Part ns Timed n = Base ns n × Link ns n.transceiver × (0 < n.count) × Timing n
 Part ns Limited n = Base ns n × Link ns n.transceiver × (0 < n.count) × Timing n × (n.threshold < 255)
@@ -158,16 +152,16 @@ encode_part Limited n l =
     (controllers_of n) (encode_transceiver n.transceiver (times_field n.short n.long n.ensure (byte_field 5 n.threshold l))))
 
 -- what a move leads to, where `bytes` is how the bytes so far go on
-abbrev Leads : List Network → (List ℕ → List ℕ) → Filling → Network → Type 0
-Leads ns bytes (More progress) n = Part ns progress n × ((l : List ℕ) → encode_part progress n l ≡ bytes l)
-Leads ns bytes Whole n = Fits ns n × ((l : List ℕ) → encode_network n l ≡ bytes l)
-Leads ns bytes (Filling.Refused fault) n = Unit
+abbrev Leads : List Network → (List ℕ → List ℕ) → Option Progress → Network → Type 0
+Leads ns bytes (Some progress) n = Part ns progress n × ((l : List ℕ) → encode_part progress n l ≡ bytes l)
+Leads ns bytes None n = Fits ns n × ((l : List ℕ) → encode_network n l ≡ bytes l)
 
-abbrev Led : List Network → (List ℕ → List ℕ) → Filled → Type 0
-Led ns bytes m = Leads ns bytes m.filling m.network
+abbrev Led : List Network → (List ℕ → List ℕ) → Result Filled Fault → Type 0
+Led ns bytes (Ok filled) = Leads ns bytes filled.progress filled.network
+Led ns bytes (Err fault) = Unit
 
 -- the same for a field that is written in another way
-led_same : (ns : List Network) (bytes : List ℕ → List ℕ) (m : Filled) {f g : List ℕ → List ℕ} →
+led_same : (ns : List Network) (bytes : List ℕ → List ℕ) (m : Result Filled Fault) {f g : List ℕ → List ℕ} →
     f ≡ g → Led ns (λ l. bytes (f l)) m → Led ns (λ l. bytes (g l)) m
 led_same ns bytes m e p = subst (λ (f : List ℕ → List ℕ). Led ns (λ l. bytes (f l)) m) e p
 
@@ -200,7 +194,7 @@ module _ (ns : List Network) (n : Network) (x : ℕ) (b : Base ns n) (h : n.coun
       }
 
 -- the tests of field 02 that follow that of the order
-controller_led : (ns : List Network) (n : Network) (x : ℕ) → Base ns n → n.transceiver ≡ Absent
+controller_led : (ns : List Network) (n : Network) (x : ℕ) → Base ns n → n.transceiver ≡ None
     → Led ns (λ l. byte_field 1 n.handle (encode_controllers (controllers_of n) (byte_field 2 x l))) (on_controller (settings_of ns) n Listed x)
 unfolding on_controller encode_part add_controller encode_controllers
 controller_led ns n x b t =
@@ -257,11 +251,11 @@ transceiver_leads ns n Timed x p = tt
 transceiver_leads ns n Limited x p = tt
 
 -- ---- field 04
-no_transceiver : (t : Transceiver) (l : List ℕ) → t ≡ Absent → encode_transceiver t l ≡ l
+no_transceiver : (t : Option ℕ) (l : List ℕ) → t ≡ None → encode_transceiver t l ≡ l
 unfolding encode_transceiver
 no_transceiver t l e = rw e refl
 
-no_link : (ns : List Network) (t : Transceiver) → t ≡ Absent → Link ns t
+no_link : (ns : List Network) (t : Option ℕ) → t ≡ None → Link ns t
 unfolding Below Fresh
 no_link ns t e = rw e (tt, tt)
 
@@ -302,12 +296,12 @@ threshold_leads ns n Timed x p =
 threshold_leads ns n Limited x p = tt
 
 -- ---- field 06
-is_present : (t : Transceiver) → present t ≡ true → t ≡ Absent → ⊥
-is_present Absent e a = let z : ◌≡◌ {A = ℕ} 0 1 = cc in omega arith
-is_present (Present x) e a = let z : ◌≡◌ {A = ℕ} 0 1 = cc in omega arith
+is_present : (t : Option ℕ) → present t ≡ true → t ≡ None → ⊥
+is_present None e a = cc
+is_present (Some x) e a = cc
 
 finished : (ns : List Network) (n : Network) (partial : Bool) →
-    Part ns Limited n → (partial ≡ true → n.transceiver ≡ Absent → ⊥) → Fits ns (add_partial n partial)
+    Part ns Limited n → (partial ≡ true → n.transceiver ≡ None → ⊥) → Fits ns (add_partial n partial)
 unfolding add_partial
 finished ns n partial p h = record {
   in_range = record {
@@ -337,7 +331,7 @@ partial_leads ns n Fitted x p = tt
 partial_leads ns n Timed x p = tt
 partial_leads ns n Limited x p =
     split (Led ns _) (eqb x 0)
-    (λ a. let e : x ≡ 0 = eqb-true x 0 a in (finished ns n false p (λ f. let z : ◌≡◌ {A = ℕ} 0 1 = cc in omega arith), λ l. rw (e, p.0.older) refl))
+    (λ a. let e : x ≡ 0 = eqb-true x 0 a in (finished ns n false p (λ f. cc), λ l. rw (e, p.0.older) refl))
     (λ a. split (Led ns _) (eqb x 1)
     (λ b. let e : x ≡ 1 = eqb-true x 1 b in
     split (Led ns _) (present n.transceiver) (λ t. (finished ns n true p (λ f. is_present n.transceiver t), λ l. rw (e, p.0.older) refl))
@@ -364,11 +358,11 @@ by_entry ns n progress tag v (Entry.Partial x) m p =
 by_entry ns n progress tag v (Entry.Relation x) m p = tt
 
 -- ---- where a network may begin
-abbrev Starts : List Network → (List ℕ → List ℕ) → Opening → Type 0
-Starts ns bytes Closes = ⊥
-Starts ns bytes (Begins handle) = Part ns Named (begun handle) × ((l : List ℕ) → encode_part Named (begun handle) l ≡ bytes l) × (length ns < 8)
-Starts ns bytes (Refuses fault) = Unit
-Starts ns bytes Amends = (takes_relation ns ≡ true) × ((l : List ℕ) → byte_field 7 1 l ≡ bytes l)
+abbrev Starts : List Network → (List ℕ → List ℕ) → Result Opening Fault → Type 0
+Starts ns bytes (Ok Closes) = ⊥
+Starts ns bytes (Ok (Begins handle)) = Part ns Named (begun handle) × ((l : List ℕ) → encode_part Named (begun handle) l ≡ bytes l) × (length ns < 8)
+Starts ns bytes (Err fault) = Unit
+Starts ns bytes (Ok Amends) = (takes_relation ns ≡ true) × ((l : List ℕ) → byte_field 7 1 l ≡ bytes l)
 
 begun_part : (ns : List Network) (handle : ℕ) → handle < 256 → member handle (all handles_of ns) ≡ false → Part ns Named (begun handle)
 unfolding begun Below Fresh
@@ -466,11 +460,11 @@ so_far_good ns s h k =
 -- ---- the row
 -- what an accepted reading of a row says, after the networks ns and the bytes of an unfinished one
 abbrev Told : List Network → (List ℕ → List ℕ) → Row → Reading → Type 0
-Told ns bytes row d = d.answer ≡ Accepted → Good d.settings × Ends row × (encode d.settings ≡ encode_networks ns (bytes (bytes_of row)))
+Told ns bytes row d = d.answer ≡ Ok tt → Good d.settings × Ends row × (encode d.settings ≡ encode_networks ns (bytes (bytes_of row)))
 
 refused_told : (ns : List Network) (bytes : List ℕ → List ℕ) (row : Row) (fault : Fault) (place : ℕ) → Told ns bytes row (refused_at fault place)
 unfolding refused_at
-refused_told ns bytes row fault place e = absurd (let z : ◌≡◌ {A = ℕ} 0 1 = cc in omega arith)
+refused_told ns bytes row fault place e = absurd cc
 
 abbrev Same : List ℕ → List ℕ
 Same l = l
@@ -480,7 +474,7 @@ unfolding closed bytes_of encode
 closed_told ns at s h = by_test (eqb (length ns) 0) refl
   where
     by_test : (b : Bool) → eqb (length ns) 0 ≡ b → Told ns Same
-        (stop at) (cond b (refused_at Empty 0) (let r : Reading = record { answer = Accepted; place = at; settings = settings_of ns } in r))
+        (stop at) (cond b (refused_at Empty 0) (let r : Reading = record { answer = Ok tt; place = at; settings = settings_of ns } in r))
     by_test true q = refused_told ns Same (stop at) Empty 0
     by_test false q = λ e. (so_far_good ns s h (eqb-false (length ns) 0 q), tt, ap (λ (l : List Network). encode_networks l []) (networks_of_lem ns))
 
@@ -491,17 +485,23 @@ NetworkTold row ns =
 abbrev SheetTold : Row → Type 0
 SheetTold row = (ns : List Network) → SoFar ns → length ns ≤ 8 → Told ns Same row (sheet row (settings_of ns))
 
-move_told : (to : Filling) (m : Network) (entry : Entry) (at tag : ℕ) (v : List ℕ) (row : Row) (ns : List Network) (bytes : List ℕ → List ℕ) → SoFar
+field_told : (to : Option Progress) (m : Network) (at tag : ℕ) (v : List ℕ) (row : Row) (ns : List Network) (bytes : List ℕ → List ℕ) → SoFar
     ns → length ns < 8 → Leads ns (λ l. bytes (field_bytes tag v l)) to m → NetworkTold row ns → SheetTold row → Told ns bytes (field at tag v row)
-    (after_filling to m entry at (λ n progress. network row (settings_of ns) n progress) (λ n. sheet row (pushed (settings_of ns) n)))
-unfolding after_filling bytes_of encode_networks
-move_told (More progress) m entry at tag v row ns bytes s h p net sh =
+    (after_field to m (λ n progress. network row (settings_of ns) n progress) (λ n. sheet row (pushed (settings_of ns) n)))
+unfolding bytes_of encode_networks
+field_told (Some progress) m at tag v row ns bytes s h p net sh =
     λ e. let x = net m progress p.0 e in (x.0, x.1, x.2 ∙ ap (encode_networks ns) (p.1 (bytes_of row)))
-move_told Whole m entry at tag v row ns bytes s h p net sh = λ e.
+field_told None m at tag v row ns bytes s h p net sh = λ e.
     let k : length (ns ++ (m ∷ [])) ≤ 8 = simp length-append (omega arith) in
     let x = sh (ns ++ (m ∷ [])) (so_far_more ns m s p.0) k (rw (push ns m h) at e) in
     rw (push ns m h) (x.0, x.1, x.2 ∙ networks_onto ns (m ∷ []) (bytes_of row) ∙ ap (encode_networks ns) (p.1 (bytes_of row)))
-move_told (Filling.Refused fault) m entry at tag v row ns bytes s h p net sh =
+
+move_told : (to : Result Filled Fault) (entry : Entry) (at tag : ℕ) (v : List ℕ) (row : Row) (ns : List Network) (bytes : List ℕ → List ℕ) → SoFar
+    ns → length ns < 8 → Led ns (λ l. bytes (field_bytes tag v l)) to → NetworkTold row ns → SheetTold row → Told ns bytes (field at tag v row)
+    (after_filling to entry at (λ n progress. network row (settings_of ns) n progress) (λ n. sheet row (pushed (settings_of ns) n)))
+unfolding after_filling
+move_told (Ok filled) entry at tag v row ns bytes s h p net sh = field_told filled.progress filled.network at tag v row ns bytes s h p net sh
+move_told (Err fault) entry at tag v row ns bytes s h p net sh =
     refused_told ns bytes (field at tag v row) fault (place_of fault entry at)
 
 -- the bytes of a network with field 07 are its bytes without it, and then that field
@@ -539,16 +539,16 @@ related_told row ns sh s h t =
           ∙ sym (networks_onto k.before (k.end ∷ []) (byte_field 7 1 (bytes_of row))),
     ))
 
-opening_told : (o : Opening) (entry : Entry) (at tag : ℕ) (v : List ℕ) (row : Row) (ns : List Network) →
+opening_told : (o : Result Opening Fault) (entry : Entry) (at tag : ℕ) (v : List ℕ) (row : Row) (ns : List Network) →
     Starts ns (field_bytes tag v) o → SoFar ns → length ns ≤ 8 → (length ns < 8 → NetworkTold row ns) → SheetTold row →
     Told ns Same (field at tag v row)
     (after_opening o (settings_of ns) entry at (λ handle. network row (settings_of ns) (begun handle) Named) (λ more. sheet row more))
 unfolding after_opening bytes_of
-opening_told Closes entry at tag v row ns p s h net sh = absurd p
-opening_told (Begins handle) entry at tag v row ns p s h net sh =
+opening_told (Ok Closes) entry at tag v row ns p s h net sh = absurd p
+opening_told (Ok (Begins handle)) entry at tag v row ns p s h net sh =
     λ e. let x = net p.2 (begun handle) Named p.0 e in (x.0, x.1, x.2 ∙ ap (encode_networks ns) (p.1 (bytes_of row)))
-opening_told (Refuses fault) entry at tag v row ns p s h net sh = refused_told ns Same (field at tag v row) fault (place_of fault entry at)
-opening_told Amends entry at tag v row ns p s h net sh =
+opening_told (Err fault) entry at tag v row ns p s h net sh = refused_told ns Same (field at tag v row) fault (place_of fault entry at)
+opening_told (Ok Amends) entry at tag v row ns p s h net sh =
     λ e. let x = related_told row ns sh s h p.0 e in (x.0, x.1, x.2 ∙ ap (encode_networks ns) (p.1 (bytes_of row)))
 
 mutual
@@ -568,8 +568,7 @@ mutual
   network_told (overrun at tag k) w =
       λ ns s h n progress p. refused_told ns (encode_part progress n) (overrun at tag k) (overrun_fault (layout_of tag k)) _
   network_told (field at tag v row) w =
-      λ ns s h n progress p. move_told (fills (settings_of ns) n progress (field_entry tag v)).filling
-      (fills (settings_of ns) n progress (field_entry tag v)).network (field_entry tag v) at tag v row ns (encode_part progress n) s h
+      λ ns s h n progress p. move_told (fills (settings_of ns) n progress (field_entry tag v)) (field_entry tag v) at tag v row ns (encode_part progress n) s h
       (by_entry ns n progress tag v (field_entry tag v) (entry_means tag v w.0) p) (network_told row w.1 ns s h) (sheet_told row w.1)
 
 -- ---- the whole sheet
@@ -577,7 +576,7 @@ nothing_yet : SoFar []
 unfolding EachInRange all Fresh
 nothing_yet = record { in_range = tt; handles = tt; controllers = tt; transceivers = tt }
 
-module _ (b : List ℕ) (w : Bytes b) (e : (decode b).answer ≡ Accepted) where
+module _ (b : List ℕ) (w : Bytes b) (e : (decode b).answer ≡ Ok tt) where
   told : Good (decode b).settings × Ends (row_at b 0) × (encode (decode b).settings ≡ bytes_of (row_at b 0))
   unfolding read_from blank_settings encode_networks
   told = sheet_told (row_at b 0) (bytes_row 0 b w) [] nothing_yet (omega arith) e

@@ -1,8 +1,7 @@
 -- The sheet of good settings is bytes.
 use Rattle.lists.proofs.Basics.{ℕ, ◌/◌, ◌%◌, ◌<◌, arith, List, [], ◌∷◌, Bool, true, false}
 use Rattle.lists.specs.Lists.{Bytes}
-use Rattle.settings.specs.declared.Transceiver.{Transceiver}
-use Rattle.settings.specs.declared.Transceiver.TheVariants.{Absent, Present}
+use Rattle.std.specs.Prelude.{Option, None, Some}
 use Rattle.settings.specs.declared.Relation.{Relation}
 use Rattle.settings.specs.declared.Relation.TheVariants.{Above, AtOrAbove}
 use Rattle.settings.specs.declared.Network.{Network}
@@ -33,10 +32,10 @@ unfolding encode_controllers Below
 controllers [] l h b = b
 controllers (c ∷ cs) l h b = byte_field_lem 2 c (encode_controllers cs l) (omega arith) (omega (arith, h.0)) (controllers cs l h.1 b)
 
-transceiver : (t : Transceiver) (l : List ℕ) → Below 8 (listed t) → Bytes l → Bytes (encode_transceiver t l)
+transceiver : (t : Option ℕ) (l : List ℕ) → Below 8 (listed t) → Bytes l → Bytes (encode_transceiver t l)
 unfolding encode_transceiver Below
-transceiver Absent l h b = b
-transceiver (Present x) l h b = byte_field_lem 3 x l (omega arith) (omega (arith, h.0)) b
+transceiver None l h b = b
+transceiver (Some x) l h b = byte_field_lem 3 x l (omega arith) (omega (arith, h.0)) b
 
 bit_byte : (b : Bool) → bit b < 256
 bit_byte false = omega arith

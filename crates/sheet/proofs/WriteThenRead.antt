@@ -8,8 +8,7 @@ use Rattle.lists.proofs.Any.{any_append_left, any_append_right, lastly_snoc}
 use Rattle.lists.proofs.Parts.{padded_set, padded_last, padded_set_last, padded_count}
 use Rattle.fields.specs.Fields.{Row, field, rows, field_bytes}
 use Rattle.fields.proofs.Laws.{rows_field}
-use Rattle.settings.specs.declared.Transceiver.{Transceiver}
-use Rattle.settings.specs.declared.Transceiver.TheVariants.{Absent, Present}
+use Rattle.std.specs.Prelude.{Option, None, Some, Ok}
 use Rattle.settings.specs.declared.Relation.{Relation}
 use Rattle.settings.specs.declared.Relation.TheVariants.{Above, AtOrAbove}
 use Rattle.settings.specs.declared.Network.{Network}
@@ -17,11 +16,9 @@ use Rattle.settings.specs.declared.Settings.{Settings}
 use Rattle.settings.specs.Settings.{blank_network, blank_settings, networks_of, handles_of, controllers_of, transceivers_of, listed, member}
 use Rattle.settings.specs.Good.{Below, Fresh, all, InRange, EachInRange, Good}
 use Rattle.settings.proofs.Good.{controllers_counted, fresh_left, fresh_right, all_snoc, used_handle, used_controller, used_transceiver}
-use Rattle.entries.specs.declared.Entry.{Entry}
 use Rattle.entries.specs.declared.Progress.{Progress}
 use Rattle.entries.specs.declared.Progress.TheVariants.{Named, Listed, Fitted, Timed, Limited}
 use Rattle.entries.specs.declared.Opening.TheVariants.{Begins, Amends}
-use Rattle.sheet.specs.declared.Verdict.TheVariants.{Accepted}
 use Rattle.sheet.specs.declared.Reading.{Reading}
 use Rattle.entries.specs.Entries.{layout_of, byte_entry, times_entry, whole_entry, field_entry}
 use Rattle.entries.specs.Grammar.{opens_with, is_above, takes_relation, on_relation, add_relation, opens, begun, more, whole, present, takes_controller}
@@ -44,7 +41,7 @@ part_of h cs =
       handle = h;
       controllers = padded 4 0 cs;
       count = length cs;
-      transceiver = Absent;
+      transceiver = None;
       short = 0;
       long = 0;
       ensure = 0;
@@ -86,7 +83,7 @@ add_controller_lem h c cs k =
       handle = h;
       controllers = padded_set 4 0 c cs k i;
       count = sym (length-append cs (c ∷ [])) i;
-      transceiver = Absent;
+      transceiver = None;
       short = 0;
       long = 0;
       ensure = 0;
@@ -137,7 +134,7 @@ module _ (ns : List Network) where
   unfolding fills on_transceiver field_entry layout_of whole_entry byte_entry
   takes_transceiver_lem N v h e = rw (lt-leb 8 v h, networks_of_lem ns, used_transceiver v ns, e) refl
 
-  opens_handle : (v : ℕ) → member v (all handles_of ns) ≡ false → length ns < 8 → opens (settings_of ns) (field_entry 1 (v ∷ [])) ≡ Begins v
+  opens_handle : (v : ℕ) → member v (all handles_of ns) ≡ false → length ns < 8 → opens (settings_of ns) (field_entry 1 (v ∷ [])) ≡ Ok (Begins v)
   unfolding opens opens_with field_entry layout_of whole_entry byte_entry
   opens_handle v e h = rw (networks_of_lem ns, used_handle v ns, e, lt-leb 8 (length ns) h) refl
 
@@ -199,11 +196,11 @@ module _ (ns : List Network) where
         ∙ ap (λ (n : ℕ). sheet (rows 0 n l) (pushed S finished)) (omega arith)
 
 -- ---- a whole network
-has_present : (t : Transceiver) (b : Bool) → (b ≡ true → t ≡ Absent → ⊥) → b ≡ true → present t ≡ true
-has_present Absent b h e = absurd (h e refl)
-has_present (Present v) b h e = refl
+has_present : (t : Option ℕ) (b : Bool) → (b ≡ true → t ≡ None → ⊥) → b ≡ true → present t ≡ true
+has_present None b h e = absurd (h e refl)
+has_present (Some v) b h e = refl
 
-abbrev whole_of : ℕ → List ℕ → Transceiver → ℕ → ℕ → ℕ → ℕ → Bool → Relation → Network
+abbrev whole_of : ℕ → List ℕ → Option ℕ → ℕ → ℕ → ℕ → ℕ → Bool → Relation → Network
 whole_of h cs t x y z w b r =
     record {
       handle = h;
@@ -225,7 +222,7 @@ related AtOrAbove n = add_relation n
 
 -- ---- field 07
 module _ (ns : List Network) where
-  opens_relation : (n : Network) → n.relation ≡ Above → opens (settings_of (ns ++ (n ∷ []))) (field_entry 7 (1 ∷ [])) ≡ Amends
+  opens_relation : (n : Network) → n.relation ≡ Above → opens (settings_of (ns ++ (n ∷ []))) (field_entry 7 (1 ∷ [])) ≡ Ok Amends
   unfolding opens on_relation takes_relation field_entry layout_of whole_entry byte_entry
   opens_relation n e = rw (networks_of_lem (ns ++ (n ∷ [])), lastly_snoc (λ (m : Network). is_above m.relation) ns n, e) refl
 
@@ -240,19 +237,19 @@ module _ (ns : List Network) where
       ∙ ap (λ (k : ℕ). sheet (rows 0 k l) (settings_of (ns ++ (add_relation n ∷ [])))) (omega arith)
 
 module _ (ns : List Network) where
-  transceiver_run : (h : ℕ) (cs : List ℕ) (t : Transceiver) (x y z w : ℕ) (b : Bool) (at : ℕ) (l : List ℕ)
+  transceiver_run : (h : ℕ) (cs : List ℕ) (t : Option ℕ) (x y z w : ℕ) (b : Bool) (at : ℕ) (l : List ℕ)
       → Below 8 (listed t) → Fresh (all transceivers_of ns) (listed t) → 0 < x → 0 < y → 0 < z → w < 255 → (b ≡ true → present t ≡ true)
       → network (rows 0 at (encode_transceiver t (times_field x y z (byte_field 5 w (byte_field 6 (bit b) l))))) (settings_of ns) (part_of h cs) Listed
       ≡ sheet (rows 0 (at + 4 * length (listed t) + 17) l) (pushed (settings_of ns) (whole_of h cs t x y z w b Above))
   unfolding encode_transceiver add_partial add_threshold add_times add_transceiver Below Fresh
-  transceiver_run h cs Absent x y z w b at l g f hx hy hz hw hb =
+  transceiver_run h cs None x y z w b at l g f hx hy hz hw hb =
       end_run ns (part_of h cs) Listed refl x y z w b at l hx hy hz hw hb
-      ∙ ap (λ (n : ℕ). sheet (rows 0 n l) (pushed (settings_of ns) (whole_of h cs Absent x y z w b Above))) (omega arith)
-  transceiver_run h cs (Present v) x y z w b at l g f hx hy hz hw hb =
+      ∙ ap (λ (n : ℕ). sheet (rows 0 n l) (pushed (settings_of ns) (whole_of h cs None x y z w b Above))) (omega arith)
+  transceiver_run h cs (Some v) x y z w b at l g f hx hy hz hw hb =
       goes_on at 3 (v ∷ []) (times_field x y z (byte_field 5 w (byte_field 6 (bit b) l)))
       (settings_of ns) (part_of h cs) (add_transceiver (part_of h cs) v) Listed Fitted (takes_transceiver_lem ns (part_of h cs) v g.0 f.0)
       ∙ end_run ns (add_transceiver (part_of h cs) v) Fitted refl x y z w b (at + 3 + 1) l hx hy hz hw hb
-      ∙ ap (λ (n : ℕ). sheet (rows 0 n l) (pushed (settings_of ns) (whole_of h cs (Present v) x y z w b Above))) (omega arith)
+      ∙ ap (λ (n : ℕ). sheet (rows 0 n l) (pushed (settings_of ns) (whole_of h cs (Some v) x y z w b Above))) (omega arith)
 
   -- a network as it is read up to field 06
   abbrev six_of : Network → Relation → Network
@@ -363,10 +360,10 @@ module _ (s : Settings) (g : Good s) where
   all_coming = record { in_range = g.in_range; handles = g.handles; controllers = g.controllers; transceivers = g.transceivers }
 
   -- what is read from a written sheet is the settings that were written, with the sheet's length as place
-  pub write_then_read : decode (encode s) ≡ (let r : Reading = record { answer = Accepted; place = length (encode s); settings = s } in r)
+  pub write_then_read : decode (encode s) ≡ (let r : Reading = record { answer = Ok tt; place = length (encode s); settings = s } in r)
   unfolding read_from encode blank_settings closed
   write_then_read =
       let u : length (networks_of s) ≡ s.count = networks_count in
       networks_run [] (networks_of s) 0 all_coming (omega (arith, g.few_networks))
       ∙ rw (ne_eqb (length (networks_of s)) 0 (λ e. omega (arith, g.some_network)))
-      (λ i. record { answer = Accepted; place = zero-add (length (encode_networks (networks_of s) [])) i; settings = same_settings i })
+      (λ i. record { answer = Ok tt; place = zero-add (length (encode_networks (networks_of s) [])) i; settings = same_settings i })

@@ -2,15 +2,13 @@
 use Rattle.lists.proofs.Basics.{ℕ, ◌+◌, ◌*◌, ◌≤◌, ◌<◌, arith, le-leb, ◌≡◌, refl, sym, ap, ◌∙◌, List, [], ◌∷◌, ◌++◌, append_assoc, length, drop, sets}
 use Rattle.lists.proofs.Basics.{sets-eq, lt-leb}
 use Rattle.lists.proofs.Parts.{padded_count}
-use Rattle.settings.specs.declared.Transceiver.{Transceiver}
-use Rattle.settings.specs.declared.Transceiver.TheVariants.{Absent, Present}
+use Rattle.std.specs.Prelude.{Option, None, Some, Ok, Err}
 use Rattle.settings.specs.declared.Relation.{Relation}
 use Rattle.settings.specs.declared.Relation.TheVariants.{Above, AtOrAbove}
 use Rattle.settings.specs.declared.Network.{Network}
 use Rattle.settings.specs.declared.Settings.{Settings}
 use Rattle.settings.specs.Settings.{most_networks, most_controllers, blank_network, networks_of, controllers_of, listed, transceivers_of}
 use Rattle.settings.specs.Good.{EachInRange, Good}
-use Rattle.sheet.specs.declared.Written.TheVariants.{Short, Length}
 use Rattle.sheet.specs.Encode.{byte_field, times_field, encode_controllers, encode_transceiver, bit, encode_relation, encode_network, encode_networks}
 use Rattle.sheet.specs.Encode.{encode}
 use Rattle.sheet.specs.Writing.{written, buffer_after}
@@ -21,10 +19,10 @@ unfolding encode_controllers
 controllers_before [] l = refl
 controllers_before (id ∷ ids) l = ap (byte_field 0x02 id) (controllers_before ids l)
 
-pub transceiver_before : (t : Transceiver) (l : List ℕ) → encode_transceiver t l ≡ encode_transceiver t [] ++ l
+pub transceiver_before : (t : Option ℕ) (l : List ℕ) → encode_transceiver t l ≡ encode_transceiver t [] ++ l
 unfolding encode_transceiver
-transceiver_before Absent l = refl
-transceiver_before (Present id) l = refl
+transceiver_before None l = refl
+transceiver_before (Some id) l = refl
 
 pub relation_before : (r : Relation) (l : List ℕ) → encode_relation r l ≡ encode_relation r [] ++ l
 unfolding encode_relation
@@ -84,10 +82,10 @@ unfolding encode_controllers
 length_controllers [] l = omega arith
 length_controllers (id ∷ ids) l = let e = length_controllers ids l in omega arith
 
-pub length_transceiver : (t : Transceiver) (l : List ℕ) → length (encode_transceiver t l) ≡ length (listed t) * 4 + length l
+pub length_transceiver : (t : Option ℕ) (l : List ℕ) → length (encode_transceiver t l) ≡ length (listed t) * 4 + length l
 unfolding encode_transceiver
-length_transceiver Absent l = omega arith
-length_transceiver (Present id) l = omega arith
+length_transceiver None l = omega arith
+length_transceiver (Some id) l = omega arith
 
 pub length_relation : (r : Relation) (l : List ℕ) → length (encode_relation r l) ≡ length (encode_relation r []) + length l
 unfolding encode_relation
@@ -108,11 +106,11 @@ pub length_parts : (n : Network) → length (encode_network n [])
     ≡ 21 + length (encode_controllers (controllers_of n) []) + length (encode_transceiver n.transceiver []) + length (encode_relation n.relation [])
 length_parts n = omega (arith, length_network n [], length_controllers (controllers_of n) [], length_transceiver n.transceiver [])
 
-listed_few : (t : Transceiver) → length (listed t) ≤ 1
-listed_few Absent = omega arith
-listed_few (Present id) = omega arith
+pub listed_few : (t : Option ℕ) → length (listed t) ≤ 1
+listed_few None = omega arith
+listed_few (Some id) = omega arith
 
-relation_few : (r : Relation) → length (encode_relation r []) ≤ 4
+pub relation_few : (r : Relation) → length (encode_relation r []) ≤ 4
 unfolding encode_relation
 relation_few Above = omega arith
 relation_few AtOrAbove = omega arith
@@ -144,15 +142,15 @@ encode_length s g =
 -- ---- written and buffer_after
 module _ (s : Settings) (b : List ℕ) where
   -- a buffer that is too short is refused and stays as it is
-  pub refused_untouched : length b < length (encode s) → (Short ≡ written s b) × (b ≡ buffer_after s b)
+  pub refused_untouched : length b < length (encode s) → (Err (record {}) ≡ written s b) × (b ≡ buffer_after s b)
   unfolding written buffer_after
   refused_untouched h = let t = lt-leb (length (encode s)) (length b) h in (rw t refl, rw t refl)
 
   -- a buffer into which the sheet was stored from the front on is as it should be
   pub written_from_front : (n : ℕ) (after : List ℕ) →
-      n ≡ length (encode s) → n ≤ length b → after ≡ sets b 0 (encode s) → (Length n ≡ written s b) × (after ≡ buffer_after s b)
+      n ≡ length (encode s) → n ≤ length b → after ≡ sets b 0 (encode s) → (Ok n ≡ written s b) × (after ≡ buffer_after s b)
   unfolding written buffer_after
   written_from_front n after e h p =
       let t = le-leb (length (encode s)) (length b) (omega arith) in
       let z : 0 + length (encode s) ≡ length (encode s) = omega arith in
-      (rw t (ap Length e), rw t (p ∙ sets-eq (encode s) b 0 (omega arith) ∙ ap (λ (k : ℕ). encode s ++ drop k b) z))
+      (rw t (ap Ok e), rw t (p ∙ sets-eq (encode s) b 0 (omega arith) ∙ ap (λ (k : ℕ). encode s ++ drop k b) z))

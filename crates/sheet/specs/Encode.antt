@@ -1,8 +1,6 @@
 -- The sheet that settings have: the rules S1 to S9, S12 and S27 of docs/RULES.md. Each part is written before what follows it.
-use Rattle.std.specs.Prelude.{ℕ, ◌/◌, ◌%◌, List, [], ◌∷◌, Bool, true, false}
+use Rattle.std.specs.Prelude.{ℕ, ◌/◌, ◌%◌, List, [], ◌∷◌, Bool, true, false, Option, None, Some}
 use Rattle.fields.specs.Fields.{field_bytes}
-use Rattle.settings.specs.declared.Transceiver.{Transceiver}
-use Rattle.settings.specs.declared.Transceiver.TheVariants.{Absent, Present}
 use Rattle.settings.specs.declared.Relation.{Relation}
 use Rattle.settings.specs.declared.Relation.TheVariants.{Above, AtOrAbove}
 use Rattle.settings.specs.declared.Network.{Network}
@@ -24,9 +22,9 @@ encode_controllers [] l = l
 encode_controllers (id ∷ ids) l = byte_field 0x02 id (encode_controllers ids l)
 
 -- S6: field 03, which may be missing
-unfoldable pub encode_transceiver : Transceiver → List ℕ → List ℕ
-encode_transceiver Absent l = l
-encode_transceiver (Present id) l = byte_field 0x03 id l
+unfoldable pub encode_transceiver : Option ℕ → List ℕ → List ℕ
+encode_transceiver None l = l
+encode_transceiver (Some id) l = byte_field 0x03 id l
 
 -- S9: the value of field 06
 abbrev pub bit : Bool → ℕ

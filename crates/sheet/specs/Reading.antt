@@ -1,6 +1,6 @@
 -- What reading a sheet gives, by recursion on the row of fields, as the bytes give it: the rules S2, S13, S24 to S29 and R3 to R5 of
 -- docs/RULES.md.
-use Rattle.std.specs.Prelude.{ℕ, ◌+◌, ◌-◌, List, cond, eqb, length, get_or, set}
+use Rattle.std.specs.Prelude.{ℕ, ◌+◌, ◌-◌, List, cond, eqb, length, get_or, set, Option, Some, None, Result, Ok, Err}
 use Rattle.fields.specs.Fields.{Row, stop, stub, overrun, field, row_at}
 use Rattle.settings.specs.declared.Network.{Network}
 use Rattle.settings.specs.declared.Settings.{Settings}
@@ -13,11 +13,8 @@ use Rattle.entries.specs.declared.Entry.TheVariants.{End, Bad}
 use Rattle.entries.specs.declared.Progress.{Progress}
 use Rattle.entries.specs.declared.Progress.TheVariants.{Named}
 use Rattle.entries.specs.declared.Opening.{Opening}
-use Rattle.entries.specs.declared.Opening.TheVariants.{Closes, Begins, Refuses, Amends}
-use Rattle.entries.specs.declared.Filling.{Filling}
-use Rattle.entries.specs.declared.Filling.TheVariants.{More, Whole}
-use Rattle.sheet.specs.declared.Verdict.{Verdict}
-use Rattle.sheet.specs.declared.Verdict.TheVariants.{Accepted}
+use Rattle.entries.specs.declared.Opening.TheVariants.{Closes, Begins, Amends}
+use Rattle.entries.specs.declared.Filled.{Filled}
 use Rattle.sheet.specs.declared.Reading.{Reading}
 use Rattle.entries.specs.Entries.{layout_of, overrun_fault, field_entry}
 use Rattle.entries.specs.Grammar.{begun, add_relation, opens, fills}
@@ -70,24 +67,28 @@ place_of fault entry at = pointed fault (number_in entry) at
 
 -- R3, R4: a refusal has its place; beside it the settings are blank and count no network
 unfoldable pub refused_at : Fault → ℕ → Reading
-refused_at fault place = record { answer = Verdict.Refused fault; place = place; settings = blank_settings }
+refused_at fault place = record { answer = Err fault; place = place; settings = blank_settings }
 
 -- S25, R5: the bytes end where a network may begin: without a network this is refused at 0, else accepted with the networks and the end as place
 unfoldable pub closed : Settings → ℕ → Reading
-closed s at = cond (eqb s.count 0) (refused_at Empty 0) (record { answer = Accepted; place = at; settings = s })
+closed s at = cond (eqb s.count 0) (refused_at Empty 0) (record { answer = Ok tt; place = at; settings = s })
 
--- what follows where a network may begin: the end of the sheet, a network with a handle, a refusal, field 07 of the network before
-unfoldable pub after_opening : Opening → Settings → Entry → ℕ → (ℕ → Reading) → (Settings → Reading) → Reading
-after_opening Closes s entry at begins goes_on = closed s at
-after_opening (Begins handle) s entry at begins goes_on = begins handle
-after_opening (Refuses fault) s entry at begins goes_on = refused_at fault (place_of fault entry at)
-after_opening Amends s entry at begins goes_on = goes_on (amended s)
+-- what follows where a network may begin: the end of the sheet, a network with a handle, field 07 of the network before, a refusal
+unfoldable pub after_opening : Result Opening Fault → Settings → Entry → ℕ → (ℕ → Reading) → (Settings → Reading) → Reading
+after_opening (Ok Closes) s entry at begins goes_on = closed s at
+after_opening (Ok (Begins handle)) s entry at begins goes_on = begins handle
+after_opening (Ok Amends) s entry at begins goes_on = goes_on (amended s)
+after_opening (Err fault) s entry at begins goes_on = refused_at fault (place_of fault entry at)
 
--- what follows in a network: it goes on, it is whole, a refusal
-unfoldable pub after_filling : Filling → Network → Entry → ℕ → (Network → Progress → Reading) → (Network → Reading) → Reading
-after_filling (More progress) n entry at more whole = more n progress
-after_filling Whole n entry at more whole = whole n
-after_filling (Filling.Refused fault) n entry at more whole = refused_at fault (place_of fault entry at)
+-- what follows a field in a network: it goes on, or it is whole
+abbrev pub after_field : Option Progress → Network → (Network → Progress → Reading) → (Network → Reading) → Reading
+after_field (Some progress) n more whole = more n progress
+after_field None n more whole = whole n
+
+-- what follows in a network: the field is taken, or it is refused
+unfoldable pub after_filling : Result Filled Fault → Entry → ℕ → (Network → Progress → Reading) → (Network → Reading) → Reading
+after_filling (Ok filled) entry at more whole = after_field filled.progress filled.network more whole
+after_filling (Err fault) entry at more whole = refused_at fault (place_of fault entry at)
 
 -- S15 to S18, S24, S28: a field that is laid out wrongly is refused at its tag or, for its length, where that stands
 abbrev pub bad_at : Fault → ℕ → Reading
@@ -110,7 +111,7 @@ unfoldable mutual
   network (stub at tag) s n progress = bad_at Cut at
   network (overrun at tag m) s n progress = bad_at (overrun_fault (layout_of tag m)) at
   network (field at tag v rest) s n progress =
-      after_filling (fills s n progress (field_entry tag v)).filling (fills s n progress (field_entry tag v)).network (field_entry tag v) at
+      after_filling (fills s n progress (field_entry tag v)) (field_entry tag v) at
       (λ m next. network rest s m next) (λ m. sheet rest (pushed s m))
 
 -- S13: what the bytes from a place on say

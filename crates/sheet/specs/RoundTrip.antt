@@ -1,18 +1,17 @@
 -- What one round trip asks of a reader, and wrong readers that it rules out, by computation. The rules S19, S20 and S27 of docs/RULES.md.
-use Rattle.std.specs.Prelude.{ℕ, refl, take, drop}
+use Rattle.std.specs.Prelude.{ℕ, refl, take, drop, Ok}
 use native.Mathlib.Omega.{arith}
 use Rattle.std.proofs.Math.Path.{◌≡◌, ap}
 use mathlib.Core.List.{List, [], ◌∷◌, ◌++◌}
 use Rattle.std.proofs.Math.ListN.{length, get_or}
 use Rattle.sheet.specs.declared.Reading.{Reading}
-use Rattle.sheet.specs.declared.Verdict.TheVariants.{Accepted}
 use Rattle.sheet.specs.Reading.{decode}
 use Rattle.sheet.specs.Encode.{encode_controllers, encode_transceiver, encode_relation, encode_network, encode_networks, encode}
 use Rattle.sheet.specs.Bench.{bench_sheet, newer_sheet, computed_reading}
 
 -- the settings of an accepted reading, written, are the very bytes that were read: so no two sheets say the same
 abbrev pub WrittenAsRead : List ℕ → Reading → Type 0
-WrittenAsRead b d = d.answer ≡ Accepted → encode d.settings ≡ b
+WrittenAsRead b d = d.answer ≡ Ok tt → encode d.settings ≡ b
 
 -- field 07 by itself, with this value
 abbrev relation_field : ℕ → List ℕ

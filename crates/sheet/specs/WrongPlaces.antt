@@ -1,6 +1,6 @@
 -- Answers of wrong readers for damaged bench sheets, each with the right refusal at a wrong place, that `Points` rules out, by computation. The rules
 -- S24, S28 and S29 of docs/RULES.md.
-use Rattle.std.specs.Prelude.{ℕ, ◌+◌, ◌-◌, ◌*◌, ◌≤◌, ◌<◌, ◌≡◌, refl, List, length, get_or, set}
+use Rattle.std.specs.Prelude.{ℕ, ◌+◌, ◌-◌, ◌*◌, ◌≤◌, ◌<◌, ◌≡◌, refl, List, get_or, set}
 use Rattle.std.proofs.Common.{arith, subst}
 use Rattle.fields.specs.Fields.{FieldStarts, at_first, behind}
 use Rattle.entries.specs.declared.Fault.TheVariants.{WrongLength, OutOfRange}

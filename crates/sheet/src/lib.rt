@@ -1,54 +1,41 @@
 // What reading a settings sheet and writing it give: types and definitions. The code is in `reading` and `writing`.
 #![tactic(auto)]
 
-ghost use Rattle.std.specs.Prelude.{◌≡◌};
+ghost use Rattle.std.specs.Prelude.{◌≡◌, Err};
 ghost use Rattle.sheet.specs.Numbers.{verdict_number, written_number};
 
 use entries::Fault;
 use settings::Settings;
 
-// What writing a sheet gives: its length, or that the lent buffer is too short for it.
-#[derive(Clone, Copy)]
-pub enum Written {
-    Short,
-    Length(usize),
-}
+// H4: the lent buffer is too short for the sheet.
+#[derive(Clone, Copy, Debug, PartialEq, Eq)]
+pub struct TooShort;
 
-impl Written {
-    // The number of this answer.
-    pub fn number(self) -> u8
-        ensures { result ≡ written_number self }
-    {
-        match self {
-            Written::Short => 0x20,
-            Written::Length(_) => 0,
-        }
+impl From<TooShort> for u8 {
+    ghost from_gives = { λ short n. n ≡ written_number (Err short) };
+
+    fn from(_short: TooShort) -> u8 {
+        0x20
     }
 }
 
-// What reading says of a sheet: it is accepted, or why not.
-#[derive(Clone, Copy)]
-pub enum Verdict {
-    Accepted,
-    Refused(Fault),
-}
-
-impl Verdict {
-    // The number of this verdict.
-    pub fn number(self) -> u8
-        ensures { result ≡ verdict_number self }
-    {
-        match self {
-            Verdict::Accepted => 0,
-            Verdict::Refused(fault) => fault.number(),
-        }
-    }
-}
-
-// What reading a sheet gives. Beside a refusal the settings are blank.
+// What reading a sheet gives: it is accepted, or why not. Stays a struct, with the answer a `Result` in it: the place is told beside both answers, and
+// `decode`, `refused_at` and the theorems on them speak of the blank settings beside a refusal.
 #[derive(Clone, Copy)]
 pub struct Reading {
-    pub answer: Verdict,
+    pub answer: Result<(), Fault>,
     pub place: usize,
     pub settings: Settings,
+}
+
+impl Reading {
+    // The number of the answer.
+    pub fn number(self) -> u8
+        ensures { result ≡ verdict_number self.answer }
+    {
+        match self.answer {
+            Ok(()) => 0,
+            Err(fault) => fault.into(),
+        }
+    }
 }

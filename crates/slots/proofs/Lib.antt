@@ -1,4 +1,3 @@
-pub mod Laws
 pub mod Each
 pub mod Shares
 pub mod Own

@@ -1,17 +1,9 @@
--- The bytes that a tick and a call to listen need, as a loop adds them.
-use Rattle.lists.proofs.Basics.{ℕ, zero, suc, ◌+◌, ◌*◌, ◌<◌, min, arith, add-one, ◌≡◌, refl, List, [], ◌∷◌, length, get_or, take}
-use Rattle.lists.proofs.Parts.{take_min}
+-- A number of each network, as a loop adds them.
+use Rattle.lists.proofs.Basics.{ℕ, zero, suc, ◌+◌, ◌≤◌, ◌<◌, arith, add-one, ◌≡◌, ap, ◌∙◌, List, [], ◌∷◌, length, get_or, take, take_all}
 use Rattle.settings.specs.declared.Network.{Network}
-use Rattle.slots.specs.declared.Manager.{Manager}
-use Rattle.slots.specs.declared.Share.{Share}
-use Rattle.slots.specs.Manager.{share_in, summed, needs_of}
+use Rattle.slots.specs.Manager.{summed}
 
--- ---- a number of each network, one by one
 module _ (f : Network → ℕ) where
-  pub summed_none : 0 ≡ summed f []
-  unfolding summed
-  summed_none = refl
-
   summed_suc : (ns : List Network) (i : ℕ) (d : Network) → i < length ns → summed f (take (suc i) ns) ≡ summed f (take i ns) + f (get_or ns i d)
   unfolding summed
   summed_suc [] i d h = absurd (omega arith)
@@ -23,8 +15,6 @@ module _ (f : Network → ℕ) where
       i < length ns → (total one : ℕ) → total ≡ summed f (take i ns) → one ≡ f (get_or ns i d) → total + one ≡ summed f (take (i + 1) ns)
   summed_more ns i d h total one p q = rw add-one (omega (arith, p, q, summed_suc ns i d h))
 
--- the bytes, once the shares of all are added
-pub needs_end : (share : Share) (m : Manager) (i total : ℕ) →
-    i ≡ min m.count (length m.networks) → total ≡ summed (share_in share) (take i m.networks) → 3 * total ≡ needs_of share m
-unfolding needs_of
-needs_end share m i total e p = rw (p, take_min m.networks m.count i e)
+  -- the loop has added them all
+  pub summed_all : (ns : List Network) (i total : ℕ) → length ns ≤ i → total ≡ summed f (take i ns) → total ≡ summed f ns
+  summed_all ns i total h p = p ∙ ap (summed f) (take_all i ns h)

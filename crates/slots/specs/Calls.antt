@@ -1,38 +1,34 @@
 -- The calls of the manager, and the outcome of each, complete: answer, next manager, count, polled mode, place, the records handed out, and where a
 -- buffer is lent every byte of it. Of the refusals that apply the highest in the table of docs/RULES.md is given (R6). The rules R2 to R24, H2 to H4,
 -- N6 to N9, N16, T1, B1, X1, L1 to L5 and A1 to A5.
-use Rattle.std.specs.Prelude.{ℕ, ◌*◌, ◌≡◌, List, [], ◌∷◌, ◌++◌, map, Bool, false, not, cond, leb, ltb, eqb, length, drop, replicate}
+use Rattle.sheet.specs.declared.TooShort.{TooShort}
+use Rattle.entries.specs.declared.Fault.{Fault}
+use Rattle.std.specs.Prelude.{ℕ, ◌*◌, ◌≡◌, List, [], ◌∷◌, ◌++◌, map, Bool, false, not, cond, leb, ltb, eqb, length, drop, replicate, Option, Some, None, Result, Ok, Err}
 use Rattle.records.specs.declared.Mode.{Mode}
 use Rattle.records.specs.declared.Record.{Record}
 use Rattle.records.specs.Records.{mode_number, turned, bytes}
 use Rattle.settings.specs.declared.Settings.{Settings}
 use Rattle.settings.specs.declared.Network.{Network}
 use Rattle.settings.specs.declared.Id.{Id}
-use Rattle.settings.specs.declared.Holder.{Holder}
 use Rattle.settings.specs.Settings.{most_networks, blank_network, holder_of}
-use Rattle.sheet.specs.declared.Verdict.{Verdict}
 use Rattle.sheet.specs.declared.Reading.{Reading}
-use Rattle.sheet.specs.declared.Written.{Written}
 use Rattle.sheet.specs.Reading.{decode}
 use Rattle.sheet.specs.Encode.{encode}
 use Rattle.sheet.specs.Writing.{buffer_after}
 use Rattle.handing.specs.Handing.{online_in}
 use Rattle.network.specs.declared.Message.{Message}
-use Rattle.network.specs.declared.Reply.{Reply}
+use Rattle.network.specs.declared.Refusal.{Refusal}
 use Rattle.network.specs.declared.Report.{Report}
 use Rattle.network.specs.declared.State.{State}
 use Rattle.network.specs.declared.Trouble.{Trouble}
 use Rattle.network.specs.State.{started}
 use Rattle.network.specs.Moving.{tick_state, tick_records}
-use Rattle.network.specs.Replies.{is_taken}
 use Rattle.network.specs.Parts.{Sight, a_bus_off, a_stall, an_answer, a_request, a_report, part_of, records_of}
 use Rattle.slots.specs.declared.Stage.{Stage}
-use Rattle.slots.specs.declared.Answer.{Answer}
-use Rattle.slots.specs.declared.Gate.{Gate}
-use Rattle.slots.specs.declared.Slot.{Slot}
+use Rattle.slots.specs.declared.CallRefusal.{CallRefusal}
 use Rattle.slots.specs.declared.Manager.{Manager}
 use Rattle.slots.specs.declared.Outcome.{Outcome}
-use Rattle.slots.specs.Manager.{networks_of, settings_of, blank_states, network_at, state_at, with_state, with_states, with_listening, refused, accepted}
+use Rattle.slots.specs.Manager.{Answer, networks_of, settings_of, blank_states, network_at, state_at, with_state, with_states, with_listening, refused, accepted}
 use Rattle.slots.specs.Manager.{each, gathered, tick_needs, listen_needs}
 
 -- G2: a call with its arguments; of a lent buffer the number of bytes
@@ -56,7 +52,7 @@ pub data Call : Type 0 where
 -- a manager before any call: no sheet, every slot blank
 abbrev pub new_manager : Manager
 new_manager =
-    record { stage = Stage.Empty; listening = false; count = 0; networks = replicate most_networks blank_network; states = blank_states }
+    record { stage = Stage.Empty; listening = false; settings = record { networks = replicate most_networks blank_network; count = 0 }; states = blank_states }
 
 -- one of three, by the stage
 abbrev pub by_stage : {A : Type 0} → Stage → A → A → A → A
@@ -67,29 +63,29 @@ by_stage Stage.Started a b c = c
 -- R19, L5: a manager with the settings of the sheet that was read, whatever it had before; whether it listens stays
 abbrev pub loaded : Manager → Settings → Manager
 loaded m s =
-    record { stage = Stage.Loaded; listening = m.listening; count = s.count; networks = s.networks; states = blank_states }
+    record { stage = Stage.Loaded; listening = m.listening; settings = s; states = blank_states }
 
 -- what a reading gives that was made before the start
-abbrev pub after_reading : Manager → Reading → Verdict → Outcome
+abbrev pub after_reading : Manager → Reading → Result Unit Fault → Outcome
 -- R5, R19: accepted, its count is the number of networks and its place that of the reading; its sheet takes the place of the one before
-after_reading m r Verdict.Accepted =
-    record { answer = Answer.Accepted; manager = loaded m r.settings; count = r.settings.count; mode = 0; place = r.place }
+after_reading m r (Ok accepted) =
+    record { answer = Ok tt; manager = loaded m r.settings; count = r.settings.count; mode = 0; place = r.place }
 -- R3, R4, R20: refused, the place is that of the refusal, the count is 0, and the former sheet stays in force
-after_reading m r (Verdict.Refused fault) = record { answer = Answer.Sheet fault; manager = m; count = 0; mode = 0; place = r.place }
+after_reading m r (Err fault) = record { answer = Err (CallRefusal.Sheet fault); manager = m; count = 0; mode = 0; place = r.place }
 
 -- what reading these bytes gives, before the start
 unfoldable pub read_into : Manager → List ℕ → Outcome
 read_into m bytes = after_reading m (decode bytes) (decode bytes).answer
 
 -- R9, H4: the writer's answer: 20 where too few bytes were lent, else the length of the sheet as its count
-abbrev pub after_writing : Manager → Written → Outcome
-after_writing m Written.Short = refused m Answer.TooShort
-after_writing m (Written.Length n) = accepted m n
+abbrev pub after_writing : Manager → Result ℕ TooShort → Outcome
+after_writing m (Err short) = refused m CallRefusal.TooShort
+after_writing m (Ok n) = accepted m n
 
 -- R9, R18, H4: writing needs as many bytes as the sheet has, which is its count; with fewer it is refused with 20
 unfoldable pub writing_of : Manager → ℕ → Outcome
 writing_of m room =
-    cond (leb (length (encode (settings_of m))) room) (accepted m (length (encode (settings_of m)))) (refused m Answer.TooShort)
+    cond (leb (length (encode (settings_of m))) room) (accepted m (length (encode (settings_of m)))) (refused m CallRefusal.TooShort)
 
 -- N7, N8, L5: every network has the record of the start, and the manager does not listen
 abbrev pub started_from : Manager → Manager
@@ -98,33 +94,38 @@ started_from m = with_states m false (each (λ n s. started n) (networks_of m) m
 -- ---- a call that names an id
 
 -- R10 to R12: nobody has this handle, controller or transceiver
-abbrev pub unknown : Id → Answer
-unknown (Id.OfNetwork handle) = Answer.NoHandle
-unknown (Id.OfController controller) = Answer.NoController
-unknown (Id.OfTransceiver transceiver) = Answer.NoTransceiver
+abbrev pub unknown : Id → CallRefusal
+unknown (Id.OfNetwork handle) = CallRefusal.NoHandle
+unknown (Id.OfController controller) = CallRefusal.NoController
+unknown (Id.OfTransceiver transceiver) = CallRefusal.NoTransceiver
 
 -- the slot of the network that has the id, or the refusal where there is none
-abbrev pub slot_at : Id → Holder → Slot
-slot_at id (Holder.At i) = Slot.At i
-slot_at id Holder.Nobody = Slot.Refused (unknown id)
+abbrev pub slot_at : Id → Option ℕ → Result ℕ CallRefusal
+slot_at id (Some i) = Ok i
+slot_at id None = Err (unknown id)
 
 -- R7: before the start no id is looked up
-unfoldable pub slot_of : Manager → Id → Slot
-slot_of m id = by_stage m.stage (Slot.Refused Answer.NotReady) (Slot.Refused Answer.NotReady) (slot_at id (holder_of id (networks_of m)))
+unfoldable pub slot_of : Manager → Id → Result ℕ CallRefusal
+slot_of m id = by_stage m.stage (Err CallRefusal.NotReady) (Err CallRefusal.NotReady) (slot_at id (holder_of id (networks_of m)))
 
 -- the refusal, or what the slot gives
-abbrev pub by_slot : Manager → Slot → (ℕ → Outcome) → Outcome
-by_slot m (Slot.Refused refusal) found = refused m refusal
-by_slot m (Slot.At i) found = found i
+abbrev pub by_slot : Manager → Result ℕ CallRefusal → (ℕ → Outcome) → Outcome
+by_slot m (Err refusal) found = refused m refusal
+by_slot m (Ok i) found = found i
 
 -- the manager's answer for a network's reply
-abbrev pub answer_of : Reply → Answer
-answer_of Reply.Taken = Answer.Accepted
-answer_of (Reply.Refused refusal) = Answer.Network refusal
+abbrev pub answer_of : Result Unit Refusal → Answer
+answer_of (Ok tt) = Ok tt
+answer_of (Err refusal) = Err (CallRefusal.Network refusal)
+
+-- the refusal, or what it gives
+abbrev pub by_gate : Manager → Answer → Outcome → Outcome
+by_gate m (Err refusal) o = refused m refusal
+by_gate m (Ok done) o = o
 
 -- R2, N16: a network's part lifted to its slot: what is taken stores its record there and nowhere else, and a refusal changes nothing
-unfoldable pub settled : Manager → ℕ → Reply → State → ℕ → Outcome
-settled m i reply s count = cond (is_taken reply) (accepted (with_state m i s) count) (refused m (answer_of reply))
+unfoldable pub settled : Manager → ℕ → Result Unit Refusal → State → ℕ → Outcome
+settled m i reply s count = by_gate m (answer_of reply) (accepted (with_state m i s) count)
 
 -- what slot i makes of a call
 unfoldable pub slot_outcome : Manager → ℕ → Sight → Outcome
@@ -137,30 +138,25 @@ unfoldable pub named : Manager → Id → Sight → Outcome
 named m id sight = by_slot m (slot_of m id) (λ i. slot_outcome m i sight)
 
 -- R2: the records that the slot hands out, none where there is no slot
-abbrev pub slot_records : Manager → Slot → Sight → List Record
-slot_records m (Slot.Refused refusal) sight = []
-slot_records m (Slot.At i) sight = records_of (network_at m i) (state_at m i) sight
+abbrev pub slot_records : Manager → Result ℕ CallRefusal → Sight → List Record
+slot_records m (Err refusal) sight = []
+slot_records m (Ok i) sight = records_of (network_at m i) (state_at m i) sight
 
 -- N6: a poll gives the number of the mode that was last told, and the manager stays
 abbrev pub polled : Manager → Mode → Outcome
-polled m told = record { answer = Answer.Accepted; manager = m; count = 0; mode = mode_number told; place = 0 }
+polled m told = record { answer = Ok tt; manager = m; count = 0; mode = mode_number told; place = 0 }
 
 -- ---- a call that is lent a buffer for records
 
 -- R6, R7, R9: whether it may go on: 01, then 20 with less room than it needs
-unfoldable pub gate_of : Manager → ℕ → ℕ → Gate
+unfoldable pub gate_of : Manager → ℕ → ℕ → Answer
 gate_of m room needs =
-    by_stage m.stage (Gate.Refused Answer.NotReady) (Gate.Refused Answer.NotReady) (cond (ltb room needs) (Gate.Refused Answer.TooShort) Gate.Open)
-
--- the refusal, or what it gives
-abbrev pub by_gate : Manager → Gate → Outcome → Outcome
-by_gate m (Gate.Refused refusal) o = refused m refusal
-by_gate m Gate.Open o = o
+    by_stage m.stage (Err CallRefusal.NotReady) (Err CallRefusal.NotReady) (cond (ltb room needs) (Err CallRefusal.TooShort) (Ok tt))
 
 -- R2: the records, none where it is refused
-abbrev pub gate_records : Gate → List Record → List Record
-gate_records (Gate.Refused refusal) rs = []
-gate_records Gate.Open rs = rs
+abbrev pub gate_records : Answer → List Record → List Record
+gate_records (Err refusal) rs = []
+gate_records (Ok done) rs = rs
 
 -- R17: the bytes that a bus-off needs
 abbrev pub bus_off_needs : ℕ
@@ -206,11 +202,11 @@ by_value value refuse set = cond (ltb 1 value) refuse (set (eqb 1 value))
 -- R6, K7: what a call gives; in each case its refusals stand in the order in which they are tested
 unfoldable pub outcome : Manager → Call → Outcome
 -- R4, R8, R19: 0B on a manager that runs, where the bytes are not looked at and the place is 0; until the start every reading is made
-outcome m (read bytes) = by_stage m.stage (read_into m bytes) (read_into m bytes) (refused m Answer.Running)
+outcome m (read bytes) = by_stage m.stage (read_into m bytes) (read_into m bytes) (refused m CallRefusal.Running)
 -- R7: 01 without a sheet; it works before and after the start
-outcome m (write room) = by_stage m.stage (refused m Answer.NotReady) (writing_of m room) (writing_of m room)
+outcome m (write room) = by_stage m.stage (refused m CallRefusal.NotReady) (writing_of m room) (writing_of m room)
 -- R7, R8: 01 without a sheet, 0B on a manager that runs
-outcome m start = by_stage m.stage (refused m Answer.NotReady) (accepted (started_from m) 0) (refused m Answer.Running)
+outcome m start = by_stage m.stage (refused m CallRefusal.NotReady) (accepted (started_from m) 0) (refused m CallRefusal.Running)
 -- R7, R10, R13, R14, R22, R23: 01, 03, 21, and of silent 08, 24 or 25
 outcome m (request handle mode) = named m (Id.OfNetwork handle) (a_request mode)
 -- R7, R10, N6: 01, 03, else the mode that was last told
@@ -230,7 +226,7 @@ outcome m (check_done transceiver) = named m (Id.OfTransceiver transceiver) (a_r
 -- R7, R9, R16: 01, 20
 outcome m (tick room) = by_gate m (gate_of m room (tick_needs m)) (all_ticked m)
 -- R7, R9, R13, R24, L1: 01, 20 (whatever it then hands out), 21 (above 1)
-outcome m (listen value room) = by_gate m (gate_of m room (listen_needs m)) (by_value value (refused m Answer.OutOfRange) (listened m))
+outcome m (listen value room) = by_gate m (gate_of m room (listen_needs m)) (by_value value (refused m CallRefusal.OutOfRange) (listened m))
 
 -- the call by which a message comes
 abbrev pub call_of : Message → Call
@@ -283,7 +279,7 @@ pub record Gives (m : Manager) (c : Call) (b : List ℕ) (r : Outcome) (after : 
   pub buffer : after ≡ buffer_with b (handed_out m c)
 
 -- what a slot gives that a bus-off or a stall names
-pub record SlotGives (m : Manager) (slot : Slot) (sight : Sight) (b : List ℕ) (r : Outcome) (after : List ℕ) : Type 0 where
+pub record SlotGives (m : Manager) (slot : Result ℕ CallRefusal) (sight : Sight) (b : List ℕ) (r : Outcome) (after : List ℕ) : Type 0 where
   pub result : r ≡ by_slot m slot (λ i. slot_outcome m i sight)
   pub buffer : after ≡ buffer_with b (slot_records m slot sight)
 

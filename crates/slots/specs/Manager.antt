@@ -1,5 +1,5 @@
 -- The manager, its answers with their numbers, and what all calls share. The rules R1 to R4, R7 to R13, R16, R24, H2, T1, L1 and L4 of docs/RULES.md.
-use Rattle.std.specs.Prelude.{ℕ, ◌+◌, ◌*◌, max, List, [], ◌∷◌, ◌++◌, Bool, false, length, get_or, take, set, replicate}
+use Rattle.std.specs.Prelude.{ℕ, ◌+◌, ◌*◌, max, List, [], ◌∷◌, ◌++◌, Bool, false, length, get_or, take, set, replicate, Result, Ok, Err}
 use Rattle.records.specs.declared.Mode.{Mode}
 use Rattle.records.specs.declared.Record.{Record}
 use Rattle.settings.specs.declared.Network.{Network}
@@ -11,31 +11,39 @@ use Rattle.network.specs.declared.State.{State}
 use Rattle.network.specs.State.{blank_answers}
 use Rattle.network.specs.Replies.{refusal_number}
 use Rattle.slots.specs.declared.Stage.{Stage}
-use Rattle.slots.specs.declared.Answer.{Answer}
+use Rattle.slots.specs.declared.CallRefusal.{CallRefusal}
 use Rattle.slots.specs.declared.Share.{Share}
 use Rattle.slots.specs.declared.Manager.{Manager}
 use Rattle.slots.specs.declared.Outcome.{Outcome}
 
--- R1, R7 to R13, K6: the number of each answer, 0 for accepted; a network has its own refusals, and the sheet has those from 30 to 38
+-- what a call answers: that it is accepted, or why it is not
+abbrev pub Answer : Type 0
+Answer = Result Unit CallRefusal
+
+-- R1, R7 to R13, K6: the number of each refusal; a network has its own refusals, and the sheet has those from 30 to 38
+abbrev pub call_refusal_number : CallRefusal → ℕ
+call_refusal_number CallRefusal.NotReady = 0x01
+call_refusal_number CallRefusal.Running = 0x0B
+call_refusal_number CallRefusal.TooShort = 0x20
+call_refusal_number CallRefusal.NoHandle = 0x03
+call_refusal_number CallRefusal.NoController = 0x04
+call_refusal_number CallRefusal.NoTransceiver = 0x05
+call_refusal_number CallRefusal.OutOfRange = 0x21
+call_refusal_number (CallRefusal.Network refusal) = refusal_number refusal
+call_refusal_number (CallRefusal.Sheet fault) = fault_number fault
+
+-- R1: the number of each answer, 0 for accepted
 abbrev pub answer_number : Answer → ℕ
-answer_number Answer.Accepted = 0x00
-answer_number Answer.NotReady = 0x01
-answer_number Answer.Running = 0x0B
-answer_number Answer.TooShort = 0x20
-answer_number Answer.NoHandle = 0x03
-answer_number Answer.NoController = 0x04
-answer_number Answer.NoTransceiver = 0x05
-answer_number Answer.OutOfRange = 0x21
-answer_number (Answer.Network refusal) = refusal_number refusal
-answer_number (Answer.Sheet fault) = fault_number fault
+answer_number (Ok done) = 0x00
+answer_number (Err refusal) = call_refusal_number refusal
 
 -- the networks in use, in the order of the sheet
 abbrev pub networks_of : Manager → List Network
-networks_of m = take m.count m.networks
+networks_of m = take m.settings.count m.settings.networks
 
 -- the settings of the last accepted sheet: what the writer writes
 abbrev pub settings_of : Manager → Settings
-settings_of m = record { networks = m.networks; count = m.count }
+settings_of m = m.settings
 
 -- a record that is not in use
 abbrev pub blank_state : State
@@ -48,7 +56,7 @@ blank_states = replicate most_networks blank_state
 
 -- the network of slot i; past the last slot it is the blank one
 abbrev pub network_at : Manager → ℕ → Network
-network_at m i = get_or m.networks i blank_network
+network_at m i = get_or m.settings.networks i blank_network
 
 -- the record of slot i; past the last slot it is the blank one
 abbrev pub state_at : Manager → ℕ → State
@@ -56,25 +64,25 @@ state_at m i = get_or m.states i blank_state
 
 -- the record of slot i is new; the stage, the networks and all other records stay
 abbrev pub with_state : Manager → ℕ → State → Manager
-with_state m i s = record { stage = m.stage; listening = m.listening; count = m.count; networks = m.networks; states = set m.states i s }
+with_state m i s = record { stage = m.stage; listening = m.listening; settings = m.settings; states = set m.states i s }
 
 -- all records are new: on a start and on a tick, after both of which the manager is a started one
 abbrev pub with_states : Manager → Bool → List State → Manager
 with_states m listening states =
-    record { stage = Stage.Started; listening = listening; count = m.count; networks = m.networks; states = states }
+    record { stage = Stage.Started; listening = listening; settings = m.settings; states = states }
 
 -- L1, L4: the manager listens, or does not; all else stays
 abbrev pub with_listening : Manager → Bool → Manager
 with_listening m listening =
-    record { stage = m.stage; listening = listening; count = m.count; networks = m.networks; states = m.states }
+    record { stage = m.stage; listening = listening; settings = m.settings; states = m.states }
 
 -- R2 to R4: refused, the manager stays as it was; the count, the polled mode and the place are 0
-abbrev pub refused : Manager → Answer → Outcome
-refused m answer = record { answer = answer; manager = m; count = 0; mode = 0; place = 0 }
+abbrev pub refused : Manager → CallRefusal → Outcome
+refused m refusal = record { answer = Err refusal; manager = m; count = 0; mode = 0; place = 0 }
 
 -- accepted with a count, of records or of bytes written; only a poll gives a mode and only a read a place
 abbrev pub accepted : Manager → ℕ → Outcome
-accepted m count = record { answer = Answer.Accepted; manager = m; count = count; mode = 0; place = 0 }
+accepted m count = record { answer = Ok tt; manager = m; count = count; mode = 0; place = 0 }
 
 -- T1: f of each network and its record, in the order of the sheet; records past the networks stay
 unfoldable pub each : (Network → State → State) → List Network → List State → List State

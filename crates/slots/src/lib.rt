@@ -1,66 +1,53 @@
-// The manager's data: its networks and their records, in eight slots; answers and outcomes; which slot an id names, the room that a call needs, and a
-// network's part lifted to its slot.
+// The manager's data: its networks and their records, in eight slots; answers and outcomes; the room that a call needs, and a network's part lifted to
+// its slot.
 #![tactic(auto)]
 
-mod finding;
 mod room;
 mod settling;
 
 ghost use Rattle.std.specs.Prelude.{◌≡◌};
-ghost use Rattle.slots.specs.Manager.{answer_number, blank_state, refused, accepted, network_at, state_at, with_state, with_listening};
+ghost use Rattle.slots.specs.Manager.{call_refusal_number, answer_number, blank_state, refused, accepted, network_at, state_at, with_state, with_listening};
+ghost use Rattle.slots.specs.Calls.{unknown};
 
 use entries::Fault;
-pub use finding::slot_of;
 use network::{Refusal, State};
 use records::{Mode, Record};
 pub use room::{gate_of, listen_needs, tick_needs};
-use settings::{Network, Settings};
+use settings::{Id, Network, Settings};
 pub use settling::settle;
 use steps::Step;
 
 // Whether the manager has a sheet, and whether it was started.
-#[derive(Clone, Copy)]
+#[derive(Clone, Copy, Debug, PartialEq, Eq)]
 pub enum Stage {
     Empty,
     Loaded,
     Started,
 }
 
-// The networks of the sheet, in its order, and the record of each; unused slots are blank. L1: beside them, whether the manager listens.
+// The settings of the sheet, and the record of each of its networks, in its order; unused slots are blank. L1: beside them, whether the manager
+// listens.
+// The records stay an array beside the settings, and no pairs: N3 keeps them apart, and a sheet is written from the settings alone. The stage stays
+// beside them: definitions say each field in every stage (`loaded`, `started_from`).
 #[derive(Clone, Copy)]
 pub struct Manager {
     pub stage: Stage,
     pub listening: bool,
-    pub count: u8,
-    pub networks: [Network; Settings::MOST_NETWORKS],
+    pub settings: Settings,
     pub states: [State; Settings::MOST_NETWORKS],
 }
 
-// The slot of the network that an id names, or the refusal where there is none: 01, 03, 04 or 05.
-#[derive(Clone, Copy)]
-pub enum Slot {
-    Refused(Answer),
-    At(usize),
-}
-
 // Of which call it is asked how many records a network may hand out.
+// Stays an enum: a closure in its place would be known by its clauses only, and those would name the same two numbers of `share_in` again.
 #[derive(Clone, Copy)]
 pub enum Share {
     Tick,
     Listen,
 }
 
-// Whether a call that is lent a buffer for records may go on, or its refusal: 01 or 20.
-#[derive(Clone, Copy)]
-pub enum Gate {
-    Refused(Answer),
-    Open,
-}
-
-// What a call answers, by its rule and its number.
-#[derive(Clone, Copy)]
-pub enum Answer {
-    Accepted,
+// Why a call is refused, by its rule and its number.
+#[derive(Clone, Copy, Debug, PartialEq, Eq)]
+pub enum CallRefusal {
     // R7: 01, the manager was not started, or has no sheet.
     NotReady,
     // R8: 0B, the manager runs.
@@ -79,29 +66,43 @@ pub enum Answer {
     Sheet(Fault),
 }
 
-impl Answer {
-    pub const ACCEPTED: u8 = 0x00;
+// What a call answers: that it is accepted, or why it is not.
+pub type Answer = Result<(), CallRefusal>;
 
-    // R1, R7 to R12, K6: the number of this answer.
-    pub fn number(self) -> u8
-        ensures { result ≡ answer_number self }
+impl CallRefusal {
+    // R10 to R12: the refusal where nobody has the id.
+    pub fn unknown(id: Id) -> CallRefusal
+        ensures { result ≡ unknown id }
     {
-        match self {
-            Answer::Accepted => Answer::ACCEPTED,
-            Answer::NotReady => 0x01,
-            Answer::Running => 0x0B,
-            Answer::TooShort => 0x20,
-            Answer::NoHandle => 0x03,
-            Answer::NoController => 0x04,
-            Answer::NoTransceiver => 0x05,
-            Answer::OutOfRange => 0x21,
-            Answer::Network(refusal) => refusal.number(),
-            Answer::Sheet(fault) => fault.number(),
+        match id {
+            Id::OfNetwork(_) => CallRefusal::NoHandle,
+            Id::OfController(_) => CallRefusal::NoController,
+            Id::OfTransceiver(_) => CallRefusal::NoTransceiver,
+        }
+    }
+}
+
+// R1, R7 to R12, K6: the number of each refusal.
+impl From<CallRefusal> for u8 {
+    ghost from_gives = { λ refusal number. number ≡ call_refusal_number refusal };
+
+    fn from(refusal: CallRefusal) -> u8 {
+        match refusal {
+            CallRefusal::NotReady => 0x01,
+            CallRefusal::Running => 0x0B,
+            CallRefusal::TooShort => 0x20,
+            CallRefusal::NoHandle => 0x03,
+            CallRefusal::NoController => 0x04,
+            CallRefusal::NoTransceiver => 0x05,
+            CallRefusal::OutOfRange => 0x21,
+            CallRefusal::Network(refusal) => u8::from(refusal),
+            CallRefusal::Sheet(fault) => u8::from(fault),
         }
     }
 }
 
 // What a call gives: its answer, the next manager, a count (of records, of networks, of bytes written), the polled mode, the place.
+// Stays a struct, with the answer a `Result` in it: K7 and R2 to R4 say what the other four are beside a refusal too (`refused`).
 #[derive(Clone, Copy)]
 pub struct Outcome {
     pub answer: Answer,
@@ -112,25 +113,36 @@ pub struct Outcome {
 }
 
 impl Outcome {
+    // R1: the number of an accepted call.
+    pub const ACCEPTED: u8 = 0x00;
+
+    // R1, R7 to R12, K6: the number of its answer.
+    pub fn number(&self) -> u8
+        ensures { result ≡ answer_number self.now.answer }
+    {
+        match self.answer {
+            Ok(()) => Outcome::ACCEPTED,
+            Err(refusal) => u8::from(refusal),
+        }
+    }
+
     // R2 to R4: the manager stays as it was, and the count, the polled mode and the place are 0.
-    pub fn refuse(manager: Manager, answer: Answer) -> Outcome
-        ensures { result ≡ refused manager answer }
+    pub fn refuse(manager: Manager, refusal: CallRefusal) -> Outcome
+        ensures { result ≡ refused manager refusal }
     {
         Outcome {
-            answer,
-            manager,
-            count: 0,
-            mode: 0,
-            place: 0,
+            answer: Err(refusal),
+            ..Outcome::accept(manager)
         }
     }
 
     // Accepted, with nothing to count.
+    // It names all five fields, since the other outcomes are made of it.
     pub fn accept(manager: Manager) -> Outcome
         ensures { result ≡ accepted manager 0 }
     {
         Outcome {
-            answer: Answer::Accepted,
+            answer: Ok(()),
             manager,
             count: 0,
             mode: 0,
@@ -146,7 +158,7 @@ impl Manager {
     pub const BUS_OFF_NEEDS: usize = Record::SIZE * Manager::BUS_OFF_RECORDS;
     // R21: the bytes of a stall, which hands out one record at most.
     pub const STALL_NEEDS: usize = Record::SIZE;
-    // L1: the value that sets listening; 0 clears it.
+    // L1: the value that sets listening; 0 clears it. It stays a number: one above it is refused with 21 (R13), so a caller can name it.
     pub const LISTENS: u8 = 1;
     // The most records of a tick that name a network's handle and no controller.
     pub const NOTICES: usize = 2;
@@ -157,28 +169,25 @@ impl Manager {
     pub const TICK_NEEDS: usize = Record::SIZE * Manager::TICK_RECORDS;
 
     // The network of a slot; past the slots it is blank.
-    pub fn network_at(self, at: usize) -> Network
-        ensures { result ≡ network_at self at }
+    pub fn network_at(&self, at: usize) -> Network
+        ensures { result ≡ network_at self.now at }
     {
-        let networks = self.networks;
-        if at < Settings::MOST_NETWORKS {
-            return networks[at];
-        }
-        Network::blank()
+        self.settings
+            .networks
+            .get(at)
+            .copied()
+            .unwrap_or(Network::blank())
     }
 
     // The record of a slot; past the slots it is blank.
-    pub fn state_at(self, at: usize) -> State
-        ensures { result ≡ state_at self at }
+    pub fn state_at(&self, at: usize) -> State
+        ensures { result ≡ state_at self.now at }
     {
-        let states = self.states;
-        if at < Settings::MOST_NETWORKS {
-            return states[at];
-        }
-        blank_state()
+        self.states.get(at).copied().unwrap_or(blank_state())
     }
 
     // The manager with the record of one network new.
+    // A changed copy: one slot is new, which a literal cannot say.
     pub fn with_state(self, at: usize, state: State) -> Manager
         ensures { result ≡ with_state self at state }
     {
@@ -193,9 +202,7 @@ impl Manager {
     pub fn with_listening(self, listening: bool) -> Manager
         ensures { result ≡ with_listening self listening }
     {
-        let mut next = self;
-        next.listening = listening;
-        next
+        Manager { listening, ..self }
     }
 }
 
@@ -203,14 +210,13 @@ impl Manager {
 pub fn blank_state() -> State
     ensures { result ≡ blank_state }
 {
-    let answers = State::no_answers();
     State {
         step: Step::NoCommunication,
         wanted: Mode::No,
         told: Mode::No,
         count: 0,
         asked: false,
-        answers,
+        answers: State::NO_ANSWERS,
         reported: false,
     }
 }

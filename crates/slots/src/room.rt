@@ -3,23 +3,18 @@ ghost use Rattle.std.specs.Prelude.{◌≡◌, ◌≤◌};
 ghost use Rattle.slots.specs.Manager.{share_in, needs_of, tick_needs, listen_needs};
 ghost use Rattle.slots.specs.Calls.{gate_of};
 
-use crate::{Answer, Gate, Manager, Share, Stage};
+use crate::{Answer, CallRefusal, Manager, Share, Stage};
 use records::Record;
-use settings::{Network, Settings};
+use settings::Network;
 
 // R16, R24: how many records a network may hand out, on a tick or on a call to listen.
-fn share_of(network: Network, share: Share) -> usize
-    ensures { (result ≡ share_in share network) × (result ≤ 6) }
+fn share_of(network: &Network, share: Share) -> usize
+    ensures { (result ≡ share_in share network.now) × (result ≤ 6) }
 {
-    let count = Network::in_use(network.count) as usize;
+    let count = lists::in_use(&network.controllers, network.count).len();
     match share {
         Share::Listen => count,
-        Share::Tick => {
-            if count < Network::FEWEST_CONTROLLERS {
-                return Network::FEWEST_CONTROLLERS + Manager::NOTICES;
-            }
-            count + Manager::NOTICES
-        }
+        Share::Tick => count.max(Network::FEWEST_CONTROLLERS) + Manager::NOTICES,
     }
 }
 
@@ -27,19 +22,15 @@ fn share_of(network: Network, share: Share) -> usize
 fn needs_of(manager: Manager, share: Share) -> usize
     ensures { result ≡ needs_of share manager }
 {
-    let networks = manager.networks;
-    let used = Settings::in_use(manager.count);
     let mut total: usize = 0;
-    let mut i: u8 = 0;
-    while i < used {
-        let network = networks[i as usize];
+    for network in lists::in_use(&manager.settings.networks, manager.settings.count) {
         total += share_of(network, share);
-        i += 1;
     }
     Record::SIZE * total
 }
 
 // R16: the bytes that a tick needs.
+#[tactic(auto, unfolding(crate::specs::Manager::needs_of, crate::specs::Manager::tick_needs))]
 pub fn tick_needs(manager: Manager) -> usize
     ensures { result ≡ tick_needs manager }
 {
@@ -47,6 +38,7 @@ pub fn tick_needs(manager: Manager) -> usize
 }
 
 // R24: the bytes that a call to listen needs.
+#[tactic(auto, unfolding(crate::specs::Manager::needs_of, crate::specs::Manager::listen_needs))]
 pub fn listen_needs(manager: Manager) -> usize
     ensures { result ≡ listen_needs manager }
 {
@@ -54,18 +46,12 @@ pub fn listen_needs(manager: Manager) -> usize
 }
 
 // R6, R7, R9: a call that hands out records goes on where the manager is started and the lent buffer has the room.
-pub fn gate_of(manager: Manager, room: usize, needs: usize) -> Gate
+pub fn gate_of(manager: Manager, room: usize, needs: usize) -> Answer
     ensures { result ≡ gate_of manager room needs }
 {
-    let stage = manager.stage;
-    match stage {
-        Stage::Empty => Gate::Refused(Answer::NotReady),
-        Stage::Loaded => Gate::Refused(Answer::NotReady),
-        Stage::Started => {
-            if room < needs {
-                return Gate::Refused(Answer::TooShort);
-            }
-            Gate::Open
-        }
+    match manager.stage {
+        Stage::Empty | Stage::Loaded => Err(CallRefusal::NotReady),
+        Stage::Started if room < needs => Err(CallRefusal::TooShort),
+        Stage::Started => Ok(()),
     }
 }

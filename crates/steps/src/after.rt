@@ -20,15 +20,13 @@ pub fn step_after(to: Move, step: Step, partial: bool) -> Step
     ensures { result ≡ step_after to step partial }
 {
     match to {
-        Move::Stay => step,
-        Move::AskAgain => step,
-        Move::Count(next) => next,
+        Move::Stay | Move::AskAgain => step,
+        Move::Count(next) | Move::Enter(next) => next,
         Move::EnterFull => Step::Checking(0),
         Move::EnterSilent => Step::Silent,
         Move::Pass => Step::Full,
         Move::Wait => Step::Waiting(0),
         Move::GoDown => first_down(partial),
         Move::EnterNoCommunication => Step::NoCommunication,
-        Move::Enter(next) => next,
     }
 }

@@ -11,7 +11,7 @@ pub use after::{first_down, step_after};
 use records::{ControllerMode, TransceiverMode};
 
 // N1, N2, K2: where a network is. Steps 4 and 7 have the number of their ticks inside.
-#[derive(Clone, Copy)]
+#[derive(Clone, Copy, Debug, PartialEq, Eq)]
 pub enum Step {
     // 0.
     NoCommunication,
@@ -38,7 +38,7 @@ pub enum Step {
 }
 
 // What a network is about in a step. What holds of whole groups of steps is said of the phase.
-#[derive(Clone, Copy)]
+#[derive(Clone, Copy, Debug, PartialEq, Eq)]
 pub enum Phase {
     Off,
     Rising,
@@ -52,8 +52,8 @@ pub enum Phase {
     Resetting,
 }
 
-// What a step asks for.
-#[derive(Clone, Copy)]
+// What a step asks for. Stays one enum: to ask for nothing is one case of five, and no code takes the other four together.
+#[derive(Clone, Copy, Debug, PartialEq, Eq)]
 pub enum Ask {
     Nothing,
     Controllers(ControllerMode),
@@ -62,8 +62,8 @@ pub enum Ask {
     CheckWake,
 }
 
-// The ticks that a step has counted, by the time that they are held against.
-#[derive(Clone, Copy)]
+// The ticks that a step has counted, by the time that they are held against. Stays one enum: no code takes the two times together.
+#[derive(Clone, Copy, Debug, PartialEq, Eq)]
 pub enum Timer {
     Idle,
     Ensure(u16),
@@ -71,7 +71,7 @@ pub enum Timer {
 }
 
 // What is said of each step once: its number, its phase, what it asks for and what it counts.
-#[derive(Clone, Copy)]
+#[derive(Clone, Copy, Debug, PartialEq, Eq)]
 pub struct Profile {
     pub number: u8,
     pub phase: Phase,
@@ -80,7 +80,7 @@ pub struct Profile {
 }
 
 // How a network is equipped: no transceiver, a transceiver, a transceiver with partial networking.
-#[derive(Clone, Copy)]
+#[derive(Clone, Copy, Debug, PartialEq, Eq)]
 pub enum Outfit {
     Bare,
     Fitted,
@@ -88,7 +88,7 @@ pub enum Outfit {
 }
 
 // What a tick does with a network.
-#[derive(Clone, Copy)]
+#[derive(Clone, Copy, Debug, PartialEq, Eq)]
 pub enum Move {
     // Nothing.
     Stay,
@@ -113,48 +113,21 @@ impl Phase {
     fn is_on(self) -> bool
         ensures { result ≡ on_phase self }
     {
-        match self {
-            Phase::Off => false,
-            Phase::Rising => true,
-            Phase::Checking => true,
-            Phase::Full => true,
-            Phase::Recovering => true,
-            Phase::Silent => true,
-            Phase::Falling => false,
-            Phase::Resetting => true,
-        }
+        !matches!(self, Phase::Off | Phase::Falling)
     }
 
     // N4: steps 4 to 8, 15 and 16.
     fn is_up(self) -> bool
         ensures { result ≡ up_phase self }
     {
-        match self {
-            Phase::Off => false,
-            Phase::Rising => false,
-            Phase::Checking => true,
-            Phase::Full => true,
-            Phase::Recovering => true,
-            Phase::Silent => true,
-            Phase::Falling => false,
-            Phase::Resetting => true,
-        }
+        !matches!(self, Phase::Off | Phase::Rising | Phase::Falling)
     }
 
     // N5: steps 4 and 5.
     fn is_full(self) -> bool
         ensures { result ≡ full_phase self }
     {
-        match self {
-            Phase::Off => false,
-            Phase::Rising => false,
-            Phase::Checking => true,
-            Phase::Full => true,
-            Phase::Recovering => false,
-            Phase::Silent => false,
-            Phase::Falling => false,
-            Phase::Resetting => false,
-        }
+        matches!(self, Phase::Checking | Phase::Full)
     }
 }
 
@@ -173,34 +146,14 @@ impl Ask {
     pub fn is_to_start(self) -> bool
         ensures { result ≡ asks_to_start self }
     {
-        match self {
-            Ask::Nothing => false,
-            Ask::Controllers(mode) => match mode {
-                ControllerMode::Stopped => false,
-                ControllerMode::Started => true,
-                ControllerMode::Sleep => false,
-            },
-            Ask::Transceiver(_) => false,
-            Ask::ClearWake => false,
-            Ask::CheckWake => false,
-        }
+        self == Ask::STARTED
     }
 
     // The controllers are to sleep.
     pub fn is_to_sleep(self) -> bool
         ensures { result ≡ asks_to_sleep self }
     {
-        match self {
-            Ask::Nothing => false,
-            Ask::Controllers(mode) => match mode {
-                ControllerMode::Stopped => false,
-                ControllerMode::Started => false,
-                ControllerMode::Sleep => true,
-            },
-            Ask::Transceiver(_) => false,
-            Ask::ClearWake => false,
-            Ask::CheckWake => false,
-        }
+        self == Ask::SLEEP
     }
 }
 
@@ -217,13 +170,7 @@ fn row(number: u8, phase: Phase, ask: Ask, timer: Timer) -> Profile
 }
 
 impl Step {
-    // The most ticks that a timed step counts.
-    pub const MOST_TICKS: u16 = 65535;
-
-    // The number of the step in which the controllers are started again after a bus-off.
-    const RESTART: u8 = 6;
-
-    // N1, N2: the table of the steps.
+    // N1, N2: the table of the steps. Stays a table by match: a step has its ticks inside, so it is no index, and the check sees that no step is missing.
     fn profile(self) -> Profile
         ensures { result ≡ profile_of self }
     {
@@ -248,66 +195,59 @@ impl Step {
         }
     }
 
-    // The number of this step.
+    // The number of this step. Stays a method: two of the variants have ticks inside, so they cannot be given numbers.
     pub fn number(self) -> u8
         ensures { result ≡ step_number self }
     {
-        let profile = self.profile();
-        profile.number
+        self.profile().number
     }
 
     // What the network is about in this step.
     pub fn phase(self) -> Phase
         ensures { result ≡ phase_of self }
     {
-        let profile = self.profile();
-        profile.phase
+        self.profile().phase
     }
 
     // What this step asks for.
     pub fn asks(self) -> Ask
         ensures { result ≡ asks_for self }
     {
-        let profile = self.profile();
-        profile.ask
+        self.profile().ask
     }
 
     // The ticks that this step has counted.
     pub fn timer(self) -> Timer
         ensures { result ≡ timer_of self }
     {
-        let profile = self.profile();
-        profile.timer
+        self.profile().timer
     }
 
     // Steps 1 to 8, 15 and 16.
     pub fn is_on(self) -> bool
         ensures { result ≡ is_on self }
     {
-        let phase = self.phase();
-        phase.is_on()
+        self.phase().is_on()
     }
 
     // N4: steps 4 to 8, 15 and 16.
     pub fn is_up(self) -> bool
         ensures { result ≡ is_up self }
     {
-        let phase = self.phase();
-        phase.is_up()
+        self.phase().is_up()
     }
 
     // B2: step 6, in which the controllers are started again after a bus-off.
     pub fn is_restarting(self) -> bool
         ensures { result ≡ is_restarting self }
     {
-        Step::RESTART == self.number()
+        self == Step::Restarting
     }
 
     // N5: steps 4 and 5.
     pub fn is_full(self) -> bool
         ensures { result ≡ is_full_step self }
     {
-        let phase = self.phase();
-        phase.is_full()
+        self.phase().is_full()
     }
 }

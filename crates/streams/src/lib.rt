@@ -10,6 +10,7 @@ use std::io::{ErrorKind, Read, Write};
 
 // Reads until the buffer is full or the input ends, and says how many bytes came. They stand at the front of the buffer. An error ends it: then
 // the bytes that came before it have left the input too.
+// Stays beside std's `read_exact`: to that a shorter input is an error, and it does not say how many bytes came. The place counts the answer.
 pub fn read_full<R: Read>(from: &mut R, buffer: &mut [u8]) -> io::Result<usize>
     ensures within { IfOk result (λ n. n ≤ length buffer.new) }
     ensures came { IfOk result (λ n. Consumes (R.remaining from.old) (R.remaining from.new) (take n buffer.new)) }
@@ -27,17 +28,17 @@ pub fn read_full<R: Read>(from: &mut R, buffer: &mut [u8]) -> io::Result<usize>
 }
 
 // Writes all the bytes. It stops at the first write that takes nothing or fails, with an error: then a front of the bytes is written, and no more.
+// Stays beside std's `write_all`: that promises nothing on an error, and the clause `front` is what `trace::run` needs then.
 pub fn write_all<W: Write>(to: &mut W, bytes: &[u8]) -> io::Result<()>
     ensures all { OnOk result (Appends (W.contents to.old) (W.contents to.new) bytes.now) }
     ensures front { OnErr result (AppendsFront (W.contents to.old) (W.contents to.new) bytes.now) }
 {
-    let mut done = 0;
-    while done < bytes.len() {
-        let count = to.write(&bytes[done..])?;
-        if count == 0 {
-            return Err(io::Error::from(ErrorKind::WriteZero));
+    let mut rest = bytes;
+    while !rest.is_empty() {
+        match to.write(rest)? {
+            0 => return Err(io::Error::from(ErrorKind::WriteZero)),
+            count => rest = &rest[count..],
         }
-        done += count;
     }
     Ok(())
 }

@@ -1,13 +1,12 @@
 -- Laws that the proofs cite: what `io::decimal` writes is the decimal text, how long texts are, and records in a buffer.
-use Rattle.lists.proofs.Basics.{ℕ, zero, suc, ◌+◌, ◌-◌, ◌*◌, ◌/◌, ◌%◌, ◌≤◌, ◌<◌, arith, lt-ltb, le-ltb, ◌≡◌, refl, sym, ap, ◌∙◌, List, [], ◌∷◌, ◌++◌}
-use Rattle.lists.proofs.Basics.{append_assoc, append-nil, Bool, true, false, cond, ltb, length, get_or, drop, length-append, get_or-drop, ◌^◌}
+use Rattle.lists.proofs.Basics.{ℕ, zero, suc, ◌-◌, ◌*◌, ◌/◌, ◌%◌, ◌≤◌, ◌<◌, arith, lt-ltb, le-ltb, ◌≡◌, refl, sym, ap, ◌∙◌, List, [], ◌∷◌, ◌++◌}
+use Rattle.lists.proofs.Basics.{append_assoc, Bool, true, false, cond, ltb, length, get_or, drop, take, length-append, length-take, get_or-take, ◌^◌}
 use native.Mathlib.Nat.{one-le-pow}
+use Rattle.std.specs.Simd.{first_chunks}
 use Rattle.io.specs.Digits.{last_digits, hex_digit_ascii, IsDigitCount}
-use Rattle.lists.specs.Stores.{Stored}
-use Rattle.lists.proofs.Stores.{stored_then}
 use Rattle.records.specs.declared.Record.{Record}
 use Rattle.records.specs.Records.{handed, records_at}
-use Rattle.text.specs.Text.{digit, digits_up_to, decimal, record_text, records_text, blank, colon}
+use Rattle.text.specs.Text.{digit, digits_up_to, decimal, record_text, records_text, blank}
 
 -- ---- digits
 glyph_digit : (d : ℕ) → d < 10 → hex_digit_ascii d ≡ digit d
@@ -75,22 +74,22 @@ unfolding records_at
 records_length zero b = refl
 records_length (suc n) b = ap suc (records_length n (drop 3 b))
 
-pub record_at_lem : (n i : ℕ) (b : List ℕ) (d : Record) → i < n
-    → get_or (records_at n b) i d ≡ handed (get_or b (3 * i) 0) (get_or b (3 * i + 1) 0) (get_or b (3 * i + 2) 0)
-unfolding records_at
-record_at_lem zero i b d h = absurd (omega arith)
-record_at_lem (suc n) zero b d h = refl
-record_at_lem (suc n) (suc i) b d h =
-    let moved : (j k : ℕ) → 3 + j ≡ k → get_or (drop 3 b) j 0 ≡ get_or b k 0 = λ j k e. get_or-drop 3 b j 0 ∙ ap (λ (k : ℕ). get_or b k 0) e in
-    let kind = moved (3 * i) (3 * suc i) (omega arith) in
-    let target = moved (3 * i + 1) (3 * suc i + 1) (omega arith) in
-    let argument = moved (3 * i + 2) (3 * suc i + 2) (omega arith) in
-    record_at_lem n i (drop 3 b) d (omega arith) ∙ (λ j. handed (kind j) (target j) (argument j))
+-- the record that a chunk of bytes is
+abbrev by_chunk : List ℕ → Record
+by_chunk x = handed (get_or x 0 0) (get_or x 1 0) (get_or x 2 0)
 
--- a record is stored piece by piece
-pub record_stored : (r : Record) {b b₁ b₂ b₃ b₄ b₅ b₆ : List ℕ} {i i₁ i₂ i₃ i₄ i₅ i₆ : ℕ} → Stored b i (blank ∷ []) i₁ b₁ →
-    Stored b₁ i₁ (decimal r.kind) i₂ b₂ → Stored b₂ i₂ (colon ∷ []) i₃ b₃ → Stored b₃ i₃ (decimal r.target) i₄ b₄ →
-    Stored b₄ i₄ (colon ∷ []) i₅ b₅ → Stored b₅ i₅ (decimal r.argument) i₆ b₆ → Stored b i (records_text (r ∷ [])) i₆ b₆
-unfolding records_text record_text
-record_stored r s s₁ s₂ s₃ s₄ s₅ =
-    rw (append-nil (record_text r)) (stored_then s (stored_then s₁ (stored_then s₂ (stored_then s₃ (stored_then s₄ s₅)))))
+chunk_in : (n i k : ℕ) (b : List ℕ) (d : Record) → i < n → n ≤ k → get_or (records_at n b) i d ≡ by_chunk (get_or (take n (first_chunks 3 k b)) i [])
+unfolding records_at
+chunk_in zero i k b d h m = absurd (omega arith)
+chunk_in (suc n) i zero b d h m = absurd (omega arith)
+chunk_in (suc n) zero (suc k) b d h m =
+    rw (get_or-take 3 b 0 0 (omega arith), get_or-take 3 b 1 0 (omega arith), get_or-take 3 b 2 0 (omega arith)) refl
+chunk_in (suc n) (suc i) (suc k) b d h m = chunk_in n i k (drop 3 b) d (omega arith) (omega arith)
+
+-- a buffer cut into chunks of three bytes: there are as many of them as whole records, and each is a record
+module _ (b : List ℕ) (chunks : List (List ℕ)) (n : ℕ) (h : 3 * n ≤ length b) where
+  pub chunks_length : length chunks ≡ length b / 3 → length (take n chunks) ≡ n
+  chunks_length e = omega (arith, length-take n chunks)
+
+  pub chunk_at_lem : chunks ≡ first_chunks 3 (length b / 3) b → (i : ℕ) (d : Record) → i < n → get_or (records_at n b) i d ≡ by_chunk (get_or (take n chunks) i [])
+  chunk_at_lem e i d k = rw e (chunk_in n i (length b / 3) b d k (omega arith))

@@ -1,8 +1,7 @@
-// Text into a buffer: bytes, numbers and records, each stored at a place with room for it; the answer is the place after it.
+// Text into a buffer: bytes, numbers and records, each appended to the filled part of a lent buffer with room for it.
 #![tactic(auto)]
 
-ghost use Rattle.std.specs.Prelude.{[], ◌∷◌, ◌+◌, ◌*◌, ◌≤◌, ◌<◌, length};
-ghost use Rattle.lists.specs.Stores.{Stored};
+ghost use Rattle.std.specs.Prelude.{◌≡◌, [], ◌∷◌, ◌+◌, ◌*◌, ◌≤◌, length};
 ghost use Rattle.records.specs.Records.{records_at};
 ghost use Rattle.text.specs.Text.{decimal, records_text};
 
@@ -21,86 +20,93 @@ impl Text {
     pub const MOST_DIGITS: usize = 20;
 }
 
-// One byte.
-pub fn put_byte(line: &mut [u8], at: usize, byte: u8) -> usize
-    requires { at + 1 ≤ length line.old }
-    ensures { Stored line.old at (byte ∷ []) result line.new }
-{
-    line[at] = byte;
-    at + 1
+// A lent buffer, and how much of it is filled.
+#[derive(Drop)]
+pub struct Line<'a> {
+    pub bytes: &'a mut [u8],
+    pub length: usize,
 }
 
-// The bytes of a text.
-pub fn put_text(line: &mut [u8], at: usize, text: &[u8]) -> usize
-    requires { at + length text.now ≤ length line.old }
-    ensures { Stored line.old at text.now result line.new }
-{
-    let mut to = at;
-    let mut i: usize = 0;
-    while i < text.len() {
-        to = put_byte(line, to, text[i]);
-        i += 1;
+impl<'a> Line<'a> {
+    ghost use Rattle.text.specs.Line.{HasRoom, Appended};
+
+    // One byte.
+    pub fn byte(&mut self, byte: u8)
+        requires { HasRoom self.old 1 }
+        ensures { Appended self.old (byte ∷ []) self.new }
+    {
+        self.bytes[self.length] = byte;
+        self.length += 1;
     }
-    to
-}
 
-// A number in decimal, with room for just its digits.
-fn put_digits(line: &mut [u8], at: usize, number: u64) -> usize
-    requires { at + length (decimal number) ≤ length line.old }
-    ensures { Stored line.old at (decimal number) result line.new }
-{
-    let mut digits = [0u8; Text::MOST_DIGITS];
-    let count = io::decimal(number, &mut digits);
-    put_text(line, at, &digits[..count])
-}
-
-// A number in decimal: at most twenty digits.
-pub fn put_decimal(line: &mut [u8], at: usize, number: u64) -> usize
-    requires { at + 20 ≤ length line.old }
-    ensures { Stored line.old at (decimal number) result line.new × (result ≤ at + 20) }
-{
-    put_digits(line, at, number)
-}
-
-// A number of one byte: at most three digits.
-pub fn put_small(line: &mut [u8], at: usize, number: u8) -> usize
-    requires { at + 3 ≤ length line.old }
-    ensures { Stored line.old at (decimal number) result line.new × (result ≤ at + 3) }
-{
-    put_digits(line, at, number as u64)
-}
-
-// A blank and a record.
-pub fn put_record(line: &mut [u8], at: usize, handed: Record) -> usize
-    requires { at + 12 ≤ length line.old }
-    ensures { Stored line.old at (records_text (handed ∷ [])) result line.new × (result ≤ at + 12) }
-{
-    let to = put_byte(line, at, Text::BLANK);
-    let to = put_small(line, to, handed.kind);
-    let to = put_byte(line, to, Text::COLON);
-    let to = put_small(line, to, handed.target);
-    let to = put_byte(line, to, Text::COLON);
-    put_small(line, to, handed.argument)
-}
-
-// So many records, as they stand at the front of a lent buffer, each after a blank.
-pub fn put_records(line: &mut [u8], at: usize, buffer: &[u8], count: usize) -> usize
-    requires count_in_bounds { 3 * count ≤ length buffer.now }
-    requires count_in_bounds_2 { at + 12 * count ≤ length line.old }
-    ensures { Stored line.old at (records_text (records_at count buffer.now)) result line.new
-        × (result ≤ at + 12 * count) }
-{
-    let mut to = at;
-    let mut i: usize = 0;
-    while i < count {
-        let from = Record::SIZE * i;
-        let handed = Record {
-            kind: buffer[from],
-            target: buffer[from + 1],
-            argument: buffer[from + 2],
-        };
-        to = put_record(line, to, handed);
-        i += 1;
+    // The bytes of a text.
+    pub fn text(&mut self, text: &[u8])
+        requires { HasRoom self.old (length text.now) }
+        ensures { Appended self.old text.now self.new }
+    {
+        let end = self.length + text.len();
+        self.bytes[self.length..end].copy_from_slice(text);
+        self.length = end;
     }
-    to
+
+    // A number in decimal, with room for just its digits.
+    fn digits(&mut self, number: u64)
+        requires { HasRoom self.old (length (decimal number)) }
+        ensures { Appended self.old (decimal number) self.new }
+    {
+        let mut digits = [0u8; Text::MOST_DIGITS];
+        let count = io::decimal(number, &mut digits);
+        self.text(&digits[..count]);
+    }
+
+    // A number in decimal: at most twenty digits. It and `small` stay two: each counts its room by its type, which one generic would ask of callers.
+    #[tactic(auto, using(crate::proofs::Laws::decimal_wide))]
+    pub fn decimal(&mut self, number: u64)
+        requires { HasRoom self.old 20 }
+        ensures appended { Appended self.old (decimal number) self.new }
+        ensures room { self.new.length ≤ self.old.length + 20 }
+    {
+        self.digits(number);
+    }
+
+    // A number of one byte: at most three digits.
+    #[tactic(auto, using(crate::proofs::Laws::decimal_small))]
+    pub fn small(&mut self, number: u8)
+        requires { HasRoom self.old 3 }
+        ensures appended { Appended self.old (decimal number) self.new }
+        ensures room { self.new.length ≤ self.old.length + 3 }
+    {
+        self.digits(number as u64);
+    }
+
+    // A blank and a record.
+    pub fn record(&mut self, handed: Record)
+        requires { HasRoom self.old 12 }
+        ensures appended { Appended self.old (records_text (handed ∷ [])) self.new }
+        ensures room { self.new.length ≤ self.old.length + 12 }
+    {
+        self.byte(Text::BLANK);
+        self.small(handed.kind);
+        self.byte(Text::COLON);
+        self.small(handed.target);
+        self.byte(Text::COLON);
+        self.small(handed.argument);
+    }
+
+    // So many records, as they stand at the front of a lent buffer, each after a blank. The count stays beside it: an outcome has it.
+    pub fn records(&mut self, buffer: &[u8], count: usize)
+        requires count_in_bounds { 3 * count ≤ length buffer.now }
+        requires room { HasRoom self.old (12 * count) }
+        ensures appended { Appended self.old (records_text (records_at count buffer.now)) self.new }
+        ensures room { self.new.length ≤ self.old.length + 12 * count }
+    {
+        let (records, _) = buffer.as_chunks::<{ Record::SIZE }>();
+        for &[kind, target, argument] in &records[..count] {
+            self.record(Record {
+                kind,
+                target,
+                argument,
+            });
+        }
+    }
 }

@@ -1,29 +1,34 @@
--- Laws of events: the value of a field at its place, and what a whole field says by its first bytes.
-use Rattle.lists.proofs.Basics.{ℕ, ◌+◌, ◌≤◌, arith, ◌≡◌, refl, sym, ap, subst, ◌∙◌, List, [], length, get_or, take, drop, length-drop}
-use Rattle.lists.proofs.Basics.{get_or-eq_default, length-take-le}
+-- Laws of events: what stands at a place, and the call that an event is.
+use Rattle.lists.proofs.Basics.{ℕ, ◌+◌, ◌-◌, arith, ◌≡◌, refl, sym, ap, subst, ◌∙◌, List, [], length, take, drop}
+use Rattle.std.proofs.Common.{◌⊎◌, inl, inr}
+use Rattle.fields.specs.declared.Field.{Field}
+use Rattle.fields.specs.declared.Field.TheVariants.{Stub, Overrun, Whole}
+use Rattle.fields.specs.Fields.{front, ReadAt}
+use Rattle.fields.proofs.Laws.{row_further, read_at}
 use Rattle.records.specs.Records.{bytes}
 use Rattle.slots.specs.declared.Manager.{Manager}
 use Rattle.slots.specs.declared.Outcome.{Outcome}
 use Rattle.slots.specs.Calls.{Call, outcome, handed_out, buffer_with, Gives}
 use Rattle.trace.specs.declared.Event.{Event}
 use Rattle.trace.specs.declared.Item.{Item}
-use Rattle.trace.specs.Events.{event_of, item_of, call_of}
+use Rattle.trace.specs.Events.{item_of, item_at, call_of}
 
--- ---- the value of a field, at its place
-value_length : (s : List ℕ) (at n : ℕ) → at + n ≤ length s → length (take n (drop at s)) ≡ n
-value_length s at n h = length-take-le n (drop at s) (simp length-drop (omega arith))
+-- ---- what stands at a place
+module _ (s : List ℕ) (at : ℕ) where
+  -- a field that is cut is bad
+  pub bad_at : {f : Field} → f ≡ front at (drop at s) → ((tag : ℕ) × (f ≡ Stub tag)) ⊎ ((tag : ℕ) × (n : ℕ) × (f ≡ Overrun tag n)) → ReadAt item_at s at Item.Bad at
+  unfolding item_at
+  bad_at e (inl (tag, f)) = read_at (Stub tag) (sym e ∙ f) refl refl
+  bad_at e (inr (tag, n, f)) = read_at (Overrun tag n) (sym e ∙ f) refl refl
 
--- past the value there is no byte
-pub value_over : (s : List ℕ) (at n i : ℕ) → at + n ≤ length s → n ≤ i → get_or (take n (drop at s)) i 0 ≡ 0
-value_over s at n i h k = get_or-eq_default (take n (drop at s)) 0 (rw (value_length s at n h) k)
-
--- ---- item_of
--- a whole field whose value begins at a place, by its first bytes
-pub item_whole : (s : List ℕ) (at tag n a b c : ℕ) (item : Item) → at + n ≤ length s
-    → a ≡ get_or (take n (drop at s)) 0 0 → b ≡ get_or (take n (drop at s)) 1 0 → c ≡ get_or (take n (drop at s)) 2 0
-    → item ≡ event_of tag n a b c → item ≡ item_of tag (take n (drop at s))
-unfolding item_of
-item_whole s at tag n a b c item h p q r e = e ∙ rw (value_length s at n h, p, q, r) refl
+  -- a whole field is what its tag and its value say
+  pub whole_at : {tag n next : ℕ} {item : Item} → front at (drop at s) ≡ Whole tag n next
+      → item ≡ item_of tag (take (next - (at + 3)) (drop (at + 3) s)) → ReadAt item_at s at item next
+  unfolding item_at
+  whole_at {tag} {n} {next} e f =
+      let r = row_further s at tag n next e in
+      let size : next - (at + 3) ≡ n = omega arith in
+      read_at (Whole tag n next) e (rw size at f) refl
 
 -- ---- the call that an event is
 -- a call that is lent no buffer leaves every byte of it

@@ -1,5 +1,6 @@
 -- Where the events begin, by the field that stands at a place.
-use Rattle.lists.proofs.Basics.{ℕ, zero, suc, ◌-◌, ◌≤◌, ◌<◌, arith, ◌≡◌, refl, ap, List, Bool, true, false, cond, ltb, length, drop}
+use Rattle.lists.proofs.Basics.{ℕ, zero, suc, ◌-◌, ◌≤◌, ◌<◌, arith, ◌≡◌, refl, sym, ap, ◌∙◌, List, Bool, true, false, cond, ltb, length, drop}
+use Rattle.std.proofs.Common.{◌⊎◌, inl, inr}
 use Rattle.fields.specs.declared.Field.{Field}
 use Rattle.fields.specs.declared.Field.TheVariants.{End, Stub, Overrun, Whole}
 use Rattle.fields.specs.Fields.{front}
@@ -9,6 +10,13 @@ use Rattle.trace.specs.Splitting.{first_event, events_in, events_from}
 pub events_by : (s : List ℕ) (at : ℕ) (f : Field) → front at (drop at s) ≡ f → events_from s at ≡ events_in (length s) (row_from s at f)
 unfolding events_from
 events_by s at f e = ap (events_in (length s)) (row_from_lem s at f e)
+
+-- a field that is cut: all is sheet, or its own place where its tag is that of an event
+pub events_cut : (s : List ℕ) (at : ℕ) {f : Field} {tag : ℕ} → f ≡ front at (drop at s) → (f ≡ Stub tag) ⊎ ((n : ℕ) × (f ≡ Overrun tag n))
+    → events_from s at ≡ cond (ltb tag first_event) (length s) at
+unfolding events_in
+events_cut s at {tag = tag} e (inl f) = events_by s at (Stub tag) (sym e ∙ f)
+events_cut s at {tag = tag} e (inr (n, f)) = events_by s at (Overrun tag n) (sym e ∙ f)
 
 -- ---- the events begin within the input
 either : (total at : ℕ) (c : Bool) → at ≤ total → cond c total at ≤ total

@@ -1,27 +1,34 @@
--- Laws of lines: what an event hands out fits, and a line is stored piece by piece.
-use Rattle.lists.proofs.Basics.{ℕ, ◌+◌, ◌≤◌, ◌<◌, arith, eq-eqb, ne_eqb, ◌≡◌, sym, ap, subst, ◌∙◌, List, [], ◌∷◌, ◌++◌, append_assoc, Bool, true}
+-- Laws of lines: what an event hands out fits, and a line is appended piece by piece.
+use Rattle.lists.proofs.Basics.{ℕ, ◌+◌, ◌≤◌, ◌<◌, arith, ◌≡◌, sym, ap, subst, ◌∙◌, List, [], ◌∷◌, ◌++◌, append_assoc, Bool, true}
 use Rattle.lists.proofs.Basics.{false, cond, eqb, length, take, drop, refl}
 use Rattle.lists.specs.Stores.{Stored}
-use Rattle.lists.proofs.Stores.{stored_then}
 use Rattle.fields.specs.declared.Field.{Field}
 use Rattle.fields.specs.declared.Field.TheVariants.{Stub, Overrun, Whole}
 use Rattle.fields.specs.Fields.{front, next_of, ReadAt}
 use Rattle.fields.proofs.Laws.{row_further, row_from, row_from_lem}
 use Rattle.records.specs.Records.{records_at}
+use Rattle.entries.specs.declared.Fault.{Fault}
+use Rattle.entries.specs.Entries.{fault_number}
+use Rattle.network.specs.declared.Refusal.{Refusal}
+use Rattle.network.specs.Replies.{refusal_number}
+use Rattle.slots.specs.declared.CallRefusal.{CallRefusal}
 use Rattle.slots.specs.declared.Manager.{Manager}
 use Rattle.slots.specs.declared.Outcome.{Outcome}
-use Rattle.slots.specs.Manager.{answer_number}
+use Rattle.slots.specs.Manager.{call_refusal_number, answer_number}
 use Rattle.slots.specs.Calls.{read, start, new_manager, outcome, Gives}
 use Rattle.calls.specs.Histories.{room_of, counts_records}
 use Rattle.calls.proofs.Counts.{counted, handed_back}
+use Rattle.text.specs.declared.Line.{Line}
+use Rattle.text.specs.Line.{Appended}
 use Rattle.text.specs.Text.{blank, newline, decimal}
+use Rattle.text.proofs.Appending.{appended_then}
 use Rattle.trace.specs.declared.Event.{Event}
 use Rattle.trace.specs.declared.Item.{Item}
 use Rattle.trace.specs.declared.Point.{Point}
 use Rattle.trace.specs.Events.{item_of, item_at, call_of}
 use Rattle.trace.specs.Splitting.{events_from}
 use Rattle.trace.specs.Lines.{config_line, polls, said_of, entry_line, event_line}
-use Rattle.trace.specs.Trace.{moved, item_manager, item_next, line_of, point_past, TellsItem, next_at, line_at, point_after, TellsAt, reading_of}
+use Rattle.trace.specs.Trace.{Tells, moved, item_manager, item_next, line_of, point_past, TellsItem, next_at, line_at, point_after, TellsAt, reading_of}
 use Rattle.trace.specs.Trace.{first_line, first_manager, first_next, first_point, TellsFirst}
 
 -- ---- what an event hands out
@@ -58,18 +65,18 @@ event_fits m event o g =
     rw (g.result, k.count (event_counts event)) (omega (arith, k.room, event_room event))
 
 -- ---- a line
-pub event_stored : (number : ℕ) (m : Manager) (event : Event) (o : Outcome) (buffer : List ℕ) (answer : ℕ) (polled : Bool)
-    {lent b b₁ b₂ b₃ : List ℕ} {i i₁ i₂ i₃ : ℕ} → Gives m (call_of event) lent o buffer
+pub event_appended : (number : ℕ) (m : Manager) (event : Event) (o : Outcome) (buffer : List ℕ) (answer : ℕ) (polled : Bool)
+    {lent : List ℕ} {a b c d : Line} → Gives m (call_of event) lent o buffer
     → answer ≡ answer_number o.answer → polled ≡ polls (call_of event)
-    → Stored b i (decimal number ++ (blank ∷ decimal answer)) i₁ b₁ → Stored b₁ i₁ (said_of polled o.mode (records_at o.count buffer)) i₂ b₂
-    → Stored b₂ i₂ (newline ∷ []) i₃ b₃ → Stored b i (event_line number m event) i₃ b₃
+    → Appended a (decimal number ++ (blank ∷ decimal answer)) b → Appended b (said_of polled o.mode (records_at o.count buffer)) c
+    → Appended c (newline ∷ []) d → Appended a (event_line number m event) d
 unfolding event_line entry_line
-event_stored number m event o buffer answer polled {lent} {b} {b₁} {b₂} {b₃} {i} {i₁} {i₂} {i₃} g r t s s₁ s₂ =
+event_appended number m event o buffer answer polled {lent} {a} {d = d} g r t s s₁ s₂ =
     let said = said_of polled o.mode (records_at o.count buffer) ++ (newline ∷ []) in
     let back = handed_back m (call_of event) lent o buffer (event_counts event) g in
     let e : (decimal number ++ (blank ∷ decimal answer)) ++ said ≡ event_line number m event =
     append_assoc (decimal number) (blank ∷ decimal answer) said ∙ rw (r, t, back, g.result) refl in
-    let whole : Stored b i ((decimal number ++ (blank ∷ decimal answer)) ++ said) i₃ b₃ = stored_then s (stored_then s₁ s₂) in
+    let whole : Appended a ((decimal number ++ (blank ∷ decimal answer)) ++ said) d = appended_then s (appended_then s₁ s₂) in
     rw e at whole
 
 -- ---- what a line leaves
@@ -79,6 +86,10 @@ pub tells_item : (p : Point) (item : Item) (next : ℕ) {m : Manager} {k : ℕ} 
 tells_item p item next {m} {k} {r} {before} {after} e manager line h =
     let same : moved p m next k ≡ point_past p item next = λ i. moved p (manager i) next (line.place i) in
     subst (λ (q : Point). TellsItem p item next q before after) (sym e) (record { point = same; line = line; room = h })
+
+-- in the block that a line held, once the line is over
+pub told_in : {q r : Point} {text : List ℕ} {at : ℕ} {before last after : List ℕ} → Tells q text at r before last → after ≡ last → Tells q text at r before after
+told_in t e = record { point = t.point; line = rw e t.line; room = t.room }
 
 -- by what was found at the point's place
 pub tells_at : (s : List ℕ) (p : Point) {found : Item} {n : ℕ} (item : Item) {r : Point} {before after : List ℕ} → ReadAt item_at s p.next found n
@@ -90,6 +101,36 @@ tells_at s p {found} {n} item {r} {before} {after} f e t =
     (sym e ∙ f.what) placed
 
 -- ---- the first line
+-- no refusal has the number of an accepted call
+pub refusal_numbered : (refusal : CallRefusal) → eqb (call_refusal_number refusal) 0 ≡ false
+refusal_numbered CallRefusal.NotReady = refl
+refusal_numbered CallRefusal.Running = refl
+refusal_numbered CallRefusal.TooShort = refl
+refusal_numbered CallRefusal.NoHandle = refl
+refusal_numbered CallRefusal.NoController = refl
+refusal_numbered CallRefusal.NoTransceiver = refl
+refusal_numbered CallRefusal.OutOfRange = refl
+refusal_numbered (CallRefusal.Network refusal) = by_refusal refusal
+  where
+    by_refusal : (r : Refusal) → eqb (refusal_number r) 0 ≡ false
+    by_refusal Refusal.OutOfRange = refl
+    by_refusal Refusal.Asleep = refl
+    by_refusal Refusal.ComingUp = refl
+    by_refusal Refusal.GoingDown = refl
+    by_refusal Refusal.NotTaken = refl
+refusal_numbered (CallRefusal.Sheet fault) = by_fault fault
+  where
+    by_fault : (f : Fault) → eqb (fault_number f) 0 ≡ false
+    by_fault Fault.Cut = refl
+    by_fault Fault.UnknownTag = refl
+    by_fault Fault.WrongLength = refl
+    by_fault Fault.OutOfOrder = refl
+    by_fault Fault.OutOfRange = refl
+    by_fault Fault.UsedBefore = refl
+    by_fault Fault.TooMany = refl
+    by_fault Fault.NoTransceiver = refl
+    by_fault Fault.Empty = refl
+
 module _ (s : List ℕ) {at : ℕ} {m : Manager} {o begun : Outcome} {number : ℕ} (p : at ≡ events_from s 0) (q : m ≡ new_manager)
     (r : o ≡ outcome m (read (take at s))) (n : number ≡ answer_number o.answer) (t : begun ≡ outcome o.manager start) where
   reading : o ≡ reading_of s
@@ -99,26 +140,17 @@ module _ (s : List ℕ) {at : ℕ} {m : Manager} {o begun : Outcome} {number : �
   answer : answer_number (reading_of s).answer ≡ number
   answer = ap (λ (x : Outcome). answer_number x.answer) (sym reading) ∙ sym n
 
-  module _ {before after : List ℕ} {k : ℕ} where
-    -- by whether the sheet was accepted
-    told : (accepted : Bool) → eqb (answer_number (reading_of s).answer) 0 ≡ accepted → (next : ℕ) → next ≡ cond accepted (events_from s 0) (length s)
-        → Stored before 0 (config_line number (cond accepted o.count o.place)) k after × (k ≤ 601)
-        → TellsFirst s (record { manager = begun.manager; next = next; number = 1; length = k }) before after
-    unfolding first_point first_manager first_next first_line
-    told accepted e next h l =
-        let line : Stored before 0 (first_line s) k after = rw (e, ← reading, ← n) l.0 in
-        let started : begun.manager ≡ first_manager s = rw (t, reading) refl in
-        let place : next ≡ first_next s = h ∙ rw e refl in
-        let size : k ≡ length (first_line s) = omega (arith, line.place) in
-        record { point = λ i. record { manager = started i; next = place i; number = 1; length = size i }; line = line; room = l.1 }
-
-    pub first_accepted : number ≡ 0 → Stored before 0 (config_line number o.count) k after × (k ≤ 601) →
-        TellsFirst s (record { manager = begun.manager; next = at; number = 1; length = k }) before after
-    first_accepted z l = told true (eq-eqb (answer_number (reading_of s).answer) 0 (answer ∙ z)) at p l
-
-    pub first_refused : (number ≡ 0 → ⊥) → Stored before 0 (config_line number o.place) k after × (k ≤ 601) →
-        TellsFirst s (record { manager = begun.manager; next = length s; number = 1; length = k }) before after
-    first_refused z l = told false (ne_eqb (answer_number (reading_of s).answer) 0 (λ e. z (sym answer ∙ e))) (length s) refl l
+  -- by whether the sheet was accepted
+  pub first_told : (accepted : Bool) → eqb number 0 ≡ accepted → {shown next k : ℕ} {before after : List ℕ}
+      → shown ≡ cond accepted o.count o.place → next ≡ cond accepted at (length s) → Stored before 0 (config_line number shown) k after → k ≤ 601
+      → TellsFirst s (record { manager = begun.manager; next = next; number = 1; length = k }) before after
+  unfolding first_point first_manager first_next first_line
+  first_told accepted e {shown} {next} {k} {before} {after} f h l room =
+      let line : Stored before 0 (first_line s) k after = rw (answer, e, ← reading, ← f) l in
+      let started : begun.manager ≡ first_manager s = rw (t, reading) refl in
+      let place : next ≡ first_next s = h ∙ rw (answer, e, p) refl in
+      let size : k ≡ length (first_line s) = omega (arith, line.place) in
+      record { point = λ i. record { manager = started i; next = place i; number = 1; length = size i }; line = line; room = room }
 
 -- ---- the loop: the next line's event stands further on
 module _ (s : List ℕ) (at : ℕ) (h : at < length s) where

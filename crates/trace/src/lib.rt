@@ -30,7 +30,7 @@ pub enum Event {
 }
 
 impl Event {
-    // The tags of the fields.
+    // The tags of the fields. They stay numbers: they are bytes of the input, and the one place that tells them apart is `whole_item`.
     pub const REQUEST: u8 = 0x10;
 
     pub const BUS_OFF: u8 = 0x11;
@@ -50,29 +50,9 @@ impl Event {
     pub const STALL: u8 = 0x18;
 
     pub const LISTEN: u8 = 0x19;
-    // The lengths of their values.
-    pub const REQUEST_LENGTH: u16 = 2;
-
-    pub const BUS_OFF_LENGTH: u16 = 1;
-
-    pub const ANSWER_LENGTH: u16 = 3;
-
-    pub const TRANSCEIVER_MODE_LENGTH: u16 = 2;
-
-    pub const CLEAR_DONE_LENGTH: u16 = 1;
-
-    pub const CHECK_DONE_LENGTH: u16 = 1;
-
-    pub const TICK_LENGTH: u16 = 0;
-
-    pub const POLL_LENGTH: u16 = 1;
-
-    pub const STALL_LENGTH: u16 = 1;
-
-    pub const LISTEN_LENGTH: u16 = 1;
 }
 
-// What stands at a place of the events.
+// What stands at a place of the events. Stays an enum of three: an `Option` of a `Result` would say the same in two layers.
 #[derive(Clone, Copy)]
 pub enum Item {
     End,
@@ -81,7 +61,7 @@ pub enum Item {
     Known(Event),
 }
 
-// What stands at a place, and the place after it.
+// What stands at a place, and the place after it. Stays a struct: a reader of fields gives both for every field, a bad one too (S13, `ReadAt`).
 #[derive(Clone, Copy)]
 pub struct FoundItem {
     pub item: Item,
@@ -89,6 +69,7 @@ pub struct FoundItem {
 }
 
 // Where a run stands: the manager, the place of the next event, the number of its line, and how many bytes of the block are filled.
+// The filled bytes stay a number here, and no `Line` with the block: the definitions `Fills` and `Filled` name the number of a point.
 #[derive(Clone, Copy)]
 pub(crate) struct Point {
     pub(crate) manager: Manager,
@@ -101,7 +82,7 @@ impl Point {
     // The number of the first event's line.
     pub(crate) const FIRST: u64 = 1;
 
-    // The point after a line: the next line has the next number.
+    // The point after a line: the next line has the next number. All four fields are new, so there is nothing to update.
     pub(crate) fn moved(self, manager: Manager, next: usize, length: usize) -> Point
         requires { self.number < 2 ^ 63 }
         ensures { result ≡ moved self manager next length }
@@ -118,13 +99,7 @@ impl Point {
     pub(crate) fn emptied(self) -> Point
         ensures { result ≡ emptied self }
     {
-        let manager = self.manager;
-        Point {
-            manager,
-            next: self.next,
-            number: self.number,
-            length: 0,
-        }
+        Point { length: 0, ..self }
     }
 }
 

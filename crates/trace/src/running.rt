@@ -12,13 +12,8 @@ use std::io::Write;
 // The bytes of a block.
 const BLOCK: usize = 65536;
 
-fn empty_block() -> [u8; BLOCK]
-    ensures { 65536 ≡ length result }
-{
-    [0; BLOCK]
-}
-
 // Fills a block from a point on with whole lines, while the input has more and the block has room for the longest line.
+// Its loop stays a `while`: no index is counted, the next point is what the last line gives.
 fn fill(input: &[u8], from: Point, block: &mut [u8]) -> Point
     requires number_bound { from.number ≤ from.next + 1 }
     requires length_in_bounds { from.length ≤ length block.old }
@@ -60,12 +55,12 @@ pub fn run<W: Write>(out: &mut W, input: &[u8]) -> io::Result<usize>
         put_next(out, input, &mut written, b"too long\n")?;
         return Ok(written);
     }
-    let mut block = empty_block();
+    let mut block = [0u8; BLOCK];
     let mut point = first_line(input, &mut block);
+    // Stays a `loop`: no index is counted, and whether there is more is known after a block is written.
     loop {
         point = fill(input, point, &mut block);
-        let length = point.length;
-        put_next(out, input, &mut written, &block[..length])?;
+        put_next(out, input, &mut written, &block[..point.length])?;
         if input.len() <= point.next {
             return Ok(written);
         }

@@ -57,7 +57,7 @@ named_no_poll (read bytes) id sight e = refl
 named_no_poll (write room) id sight e = refl
 named_no_poll start id sight e = refl
 named_no_poll (request handle mode) id sight e = refl
-named_no_poll (poll handle) id sight e = absurd (let z : ◌≡◌ {A = ℕ} 0 1 = cc in omega arith)
+named_no_poll (poll handle) id sight e = absurd cc
 named_no_poll (bus_off controller room) id sight e = refl
 named_no_poll (stall handle room) id sight e = refl
 named_no_poll (answer controller mode ok) id sight e = refl

@@ -1,15 +1,15 @@
 -- The lines of `cantrace` are those of a history since the start, and the demands hold of it.
 use Rattle.lists.proofs.Basics.{ℕ, suc, ◌+◌, ◌<◌, arith, ◌≡◌, refl, sym, ap, subst, ◌∙◌, List, [], ◌∷◌, ◌++◌, append-nil, append_assoc, true, false}
-use Rattle.lists.proofs.Basics.{false≢true, eqb, ltb, length, take}
+use Rattle.lists.proofs.Basics.{true≢false, eqb, ltb, length, take}
+use Rattle.std.specs.Prelude.{Result, Ok, Err}
+use Rattle.slots.specs.declared.CallRefusal.{CallRefusal}
 use Rattle.lists.specs.Lists.{Bytes, any}
 use Rattle.lists.proofs.Parts.{take_bytes}
 use Rattle.fields.specs.Fields.{row_at}
 use Rattle.entries.specs.declared.Fault.{Fault}
-use Rattle.sheet.specs.declared.Verdict.{Verdict}
 use Rattle.sheet.specs.declared.Reading.{Reading}
 use Rattle.sheet.specs.Reading.{decode}
 use Rattle.slots.specs.declared.Manager.{Manager}
-use Rattle.slots.specs.declared.Answer.{Answer}
 use Rattle.slots.specs.Manager.{answer_number, networks_of, network_at}
 use Rattle.slots.specs.Calls.{read, start, new_manager, after_reading, read_into, outcome}
 use Rattle.calls.specs.Histories.{entry_of, History, Since, begun, goes, at_new, after}
@@ -18,6 +18,7 @@ use Rattle.trace.specs.declared.Event.{Event}
 use Rattle.trace.specs.Events.{call_of}
 use Rattle.trace.specs.Lines.{entry_line, event_line}
 use Rattle.trace.specs.Splitting.{events_from}
+use Rattle.trace.proofs.Telling.{refusal_numbered}
 use Rattle.trace.specs.Trace.{reading_of, first_line, first_manager, ending, run_lines, event_lines, lines_after, trace_of}
 use Rattle.demands.specs.Demands.{Begun, Demand3}
 use Rattle.demands.specs.ComesUp.{ComesUp}
@@ -48,31 +49,19 @@ events_since m₀ m h [] p = p
 events_since m₀ m h (e ∷ es) p = events_since m₀ (outcome m (call_of e)).manager (entry_of m (call_of e) ∷ h) es (goes m h (call_of e) p)
 
 -- ---- a recording whose sheet is taken
--- no refusal of a sheet has the number 0
-no_fault : {A : Type 0} (fault : Fault) → eqb (answer_number (Answer.Sheet fault)) 0 ≡ true → A
-no_fault Fault.Cut e = absurd (false≢true e)
-no_fault Fault.UnknownTag e = absurd (false≢true e)
-no_fault Fault.WrongLength e = absurd (false≢true e)
-no_fault Fault.OutOfOrder e = absurd (false≢true e)
-no_fault Fault.OutOfRange e = absurd (false≢true e)
-no_fault Fault.UsedBefore e = absurd (false≢true e)
-no_fault Fault.TooMany e = absurd (false≢true e)
-no_fault Fault.NoTransceiver e = absurd (false≢true e)
-no_fault Fault.Empty e = absurd (false≢true e)
-
 -- after an accepted reading a start is accepted
-read_then_start : (r : Reading) (a : Verdict) → eqb (answer_number (after_reading new_manager r a).answer) 0 ≡ true
-    → (outcome (after_reading new_manager r a).manager start).answer ≡ Answer.Accepted
+read_then_start : (r : Reading) (a : Result Unit Fault) → eqb (answer_number (after_reading new_manager r a).answer) 0 ≡ true
+    → (outcome (after_reading new_manager r a).manager start).answer ≡ Ok tt
 unfolding outcome
-read_then_start r Verdict.Accepted e = refl
-read_then_start r (Verdict.Refused fault) e = no_fault fault e
+read_then_start r (Ok done) e = refl
+read_then_start r (Err fault) e = absurd (true≢false (sym e ∙ refusal_numbered (CallRefusal.Sheet fault)))
 
 read_same : {b b' : List ℕ} → read b ≡ read b' → b ≡ b'
 read_same e = cc
 
 module _ (s : List ℕ) (bytes : Bytes s) (taken : eqb (answer_number (reading_of s).answer) 0 ≡ true) where
   -- its reading was accepted, so that a start is too
-  start_accepted : (outcome (reading_of s).manager start).answer ≡ Answer.Accepted
+  start_accepted : (outcome (reading_of s).manager start).answer ≡ Ok tt
   unfolding reading_of outcome read_into
   start_accepted = read_then_start (decode (take (events_from s 0) s)) (decode (take (events_from s 0) s)).answer taken
 

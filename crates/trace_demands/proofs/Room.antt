@@ -1,20 +1,19 @@
 -- What an event's call is lent is room for any call: none is answered 20, and every tick is accepted.
 use Rattle.lists.proofs.Basics.{ℕ, ◌≡◌, ◌≤◌, arith, le-ltb, ne_eqb, refl, sym, subst, ◌∙◌, List, [], ◌∷◌, true, false, false≢true, ltb}
 use Rattle.lists.proofs.Basics.{cond}
+use Rattle.std.specs.Prelude.{Ok, Err, Result}
+use Rattle.slots.specs.declared.CallRefusal.{CallRefusal}
 use Rattle.lists.specs.Lists.{any}
 use Rattle.lists.proofs.Tests.{split}
 use Rattle.settings.specs.declared.Id.{Id}
 use Rattle.settings.specs.Settings.{member}
 use Rattle.network.specs.declared.Refusal.{Refusal}
-use Rattle.network.specs.declared.Reply.{Reply}
-use Rattle.network.specs.Replies.{refusal_number, is_taken}
+use Rattle.network.specs.Replies.{refusal_number}
 use Rattle.network.specs.Parts.{Sight, a_bus_off, a_stall, part_of}
 use Rattle.slots.specs.declared.Stage.{Stage}
-use Rattle.slots.specs.declared.Answer.{Answer}
-use Rattle.slots.specs.declared.Gate.{Gate}
 use Rattle.slots.specs.declared.Manager.{Manager}
 use Rattle.slots.specs.declared.Outcome.{Outcome}
-use Rattle.slots.specs.Manager.{answer_number, network_at, state_at, tick_needs, listen_needs}
+use Rattle.slots.specs.Manager.{call_refusal_number, answer_number, network_at, state_at, tick_needs, listen_needs}
 use Rattle.slots.specs.Calls.{Call, by_stage, unknown, by_slot, answer_of, settled, slot_outcome, named, gate_of, by_gate, all_ticked, listened, outcome}
 use Rattle.calls.specs.Histories.{entry_of, answers_of, History, Since, goes}
 use Rattle.calls.proofs.ByCall.{by_slot_lem}
@@ -39,21 +38,20 @@ refusal_not_short Refusal.ComingUp e = omega arith
 refusal_not_short Refusal.GoingDown e = omega arith
 refusal_not_short Refusal.NotTaken e = omega arith
 
-reply_not_short : (reply : Reply) → answer_number (answer_of reply) ≡ 0x20 → ⊥
-reply_not_short Reply.Taken e = omega arith
-reply_not_short (Reply.Refused refusal) e = refusal_not_short refusal e
-
-unknown_not_short : (id : Id) → answer_number (unknown id) ≡ 0x20 → ⊥
+unknown_not_short : (id : Id) → call_refusal_number (unknown id) ≡ 0x20 → ⊥
 unknown_not_short (Id.OfNetwork handle) e = omega arith
 unknown_not_short (Id.OfController controller) e = omega arith
 unknown_not_short (Id.OfTransceiver transceiver) e = omega arith
 
 module _ (m : Manager) where
+  -- what is taken is accepted, and no refusal of a network has this number
+  reply_not_short : (reply : Result Unit Refusal) (o : Outcome) → NotShort o → NotShort (by_gate m (answer_of reply) o)
+  reply_not_short (Ok done) o e = e
+  reply_not_short (Err refusal) o e = refusal_not_short refusal
+
   slot_not_short : (i : ℕ) (sight : Sight) → NotShort (slot_outcome m i sight)
   unfolding slot_outcome settled
-  slot_not_short i sight =
-      let reply = (part_of (network_at m i) (state_at m i) sight).reply in
-      split NotShort (is_taken reply) (λ _ e. omega arith) (λ _. reply_not_short reply)
+  slot_not_short i sight = reply_not_short (part_of (network_at m i) (state_at m i) sight).reply _ (λ e. omega arith)
 
   named_not_short : (id : Id) (sight : Sight) → NotShort (named m id sight)
   unfolding named
@@ -65,8 +63,8 @@ module _ (m : Manager) where
   unfolding gate_of
   gate_not_short needs o l p = at_stage m.stage where
     at_stage : (g : Stage) → NotShort
-        (by_gate m (by_stage g (Gate.Refused Answer.NotReady) (Gate.Refused Answer.NotReady)
-        (cond (ltb 144 needs) (Gate.Refused Answer.TooShort) Gate.Open)) o)
+        (by_gate m (by_stage g (Err CallRefusal.NotReady) (Err CallRefusal.NotReady)
+        (cond (ltb 144 needs) (Err CallRefusal.TooShort) (Ok tt))) o)
     at_stage Stage.Empty e = omega arith
     at_stage Stage.Loaded e = omega arith
     at_stage Stage.Started e = p (rw (le-ltb 144 needs l) at e)
@@ -90,7 +88,7 @@ module _ (m : Manager) where
   event_not_short s (Event.Listen value) = gate_not_short (listen_needs m) _ (omega (arith, listen_needs_most m s))
       (split NotShort (ltb 1 value) (λ _ e. omega arith) (λ _ e. omega arith))
 
-  tick_accepted : Sound m → m.stage ≡ Stage.Started → (outcome m (call_of Event.Tick)).answer ≡ Answer.Accepted
+  tick_accepted : Sound m → m.stage ≡ Stage.Started → (outcome m (call_of Event.Tick)).answer ≡ Ok tt
   unfolding outcome gate_of all_ticked tick_needs
   tick_accepted s e = rw (e, le-ltb 144 (tick_needs m) (tick_needs_most m s)) refl
 
@@ -104,5 +102,5 @@ module _ (m₀ : Manager) (b : Begun m₀) where
       let here = ne_eqb (answer_number (outcome m (call_of event)).answer) 0x20 (event_not_short m (follow m₀ m h b s).sound event) in
       events_not_short (outcome m (call_of event)).manager (entry_of m (call_of event) ∷ h) es (goes m h (call_of event) s) (rw here none)
 
-  pub events_then_tick : (m : Manager) (h : History) → Since m₀ m h → (outcome m (call_of Event.Tick)).answer ≡ Answer.Accepted
+  pub events_then_tick : (m : Manager) (h : History) → Since m₀ m h → (outcome m (call_of Event.Tick)).answer ≡ Ok tt
   events_then_tick m h s = let f = follow m₀ m h b s in tick_accepted m f.sound f.started

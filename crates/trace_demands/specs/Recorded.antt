@@ -1,9 +1,8 @@
 -- What `cantrace` writes for a recording, as the demands see it: each event is a call of the manager, each line is the entry of that call in a
 -- history.
-use Rattle.std.specs.Prelude.{ℕ, ◌+◌, ◌≤◌, ◌≡◌, List, [], ◌∷◌, ◌++◌, Bool, true, false, eqb, length}
+use Rattle.std.specs.Prelude.{ℕ, ◌+◌, ◌≤◌, ◌≡◌, List, [], ◌∷◌, ◌++◌, Bool, true, false, eqb, length, Ok}
 use Rattle.lists.specs.Lists.{any}
 use Rattle.fields.specs.Fields.{row_at}
-use Rattle.slots.specs.declared.Answer.{Answer}
 use Rattle.slots.specs.declared.Manager.{Manager}
 use Rattle.slots.specs.Calls.{outcome}
 use Rattle.calls.specs.Histories.{Entry, entry_of, History, Since}
@@ -49,7 +48,7 @@ too_short e = eqb e.number 0x20
 pub record HasRoom (s : List ℕ) : Type 0 where
   pub needs : paper_needs (first_manager s) ≤ 144
   pub not_short : (es : List Event) → any too_short (history_after (first_manager s) [] es) ≡ false
-  pub ticks : (es : List Event) → (outcome (manager_after (first_manager s) es) (call_of Event.Tick)).answer ≡ Answer.Accepted
+  pub ticks : (es : List Event) → (outcome (manager_after (first_manager s) es) (call_of Event.Tick)).answer ≡ Ok tt
 
 -- two entries of one call that show the same: the answer, and the mode where the call is a poll, the records where it is none
 pub record SameShown (e f : Entry) : Type 0 where

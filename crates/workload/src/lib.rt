@@ -9,57 +9,38 @@ use records::{ControllerMode, EventStatus, Mode, Record};
 
 // How the box answers: everything, and the networks come to rest in full communication; no request to a controller, so that requests go
 // out again on every tick; or everything, and each all-clear is followed by a bus-off or by a shutdown, in turn.
+// Stays a number: C hands it over, as speed/work.h names it.
 const DEAF: u8 = 1;
 
 const RESTLESS: u8 = 2;
 // Rounds that bring every network to where it stays, in a box that answers everything or no request to a controller.
 const SETTLING: u64 = 100;
-// A sum is this much more with each number, and stays below the second.
-const FACTOR: u64 = 33;
-
-const SUMS: u64 = 4294967296;
+// A sum is this much more with each number.
+const FACTOR: u32 = 33;
 // The numbers that a byte can be.
 const BYTES: usize = 256;
 
 // One number more of what was handed out.
 fn mix(sum: u32, number: u8) -> u32 {
-    ((sum as u64 * FACTOR + number as u64) % SUMS) as u32
+    sum.wrapping_mul(FACTOR).wrapping_add(u32::from(number))
 }
 
-fn mix_record(sum: u32, kind: u8, target: u8, argument: u8) -> u32 {
-    mix(mix(mix(sum, kind), target), argument)
-}
-
-// The records of a bus-off, byte by byte.
-fn mix_recovery(sum: u32, records: &[u8; Manager::BUS_OFF_NEEDS]) -> u32 {
-    let mut mixed = sum;
-    let mut at: usize = 0;
-    while at < Manager::BUS_OFF_NEEDS {
-        mixed = mix(mixed, records[at]);
-        at += 1;
-    }
-    mixed
-}
-
-// A byte of the lent buffer; past its end 0.
-fn byte_at(out: &[u8; Manager::TICK_NEEDS], at: usize) -> u8 {
-    if at < Manager::TICK_NEEDS {
-        return out[at];
-    }
-    0
+// One after the other.
+fn mix_all(sum: u32, numbers: &[u8]) -> u32 {
+    numbers
+        .iter()
+        .fold(sum, |mixed, number| mix(mixed, *number))
 }
 
 // A manager with this sheet, started; without one where the sheet is refused.
 fn begin(sheet: &[u8]) -> Manager {
     let taken = manager::read(manager::new(), sheet);
-    let started = manager::start(taken.manager);
-    started.manager
+    manager::start(taken.manager).manager
 }
 
 // The manager after listening was set.
 fn quiet(manager: Manager, out: &mut [u8; Manager::TICK_NEEDS]) -> Manager {
-    let outcome = manager::listen(manager, Manager::LISTENS, out);
-    outcome.manager
+    manager::listen(manager, Manager::LISTENS, out).manager
 }
 
 // What has come of the rounds so far.
@@ -73,13 +54,13 @@ struct Played {
 fn strike(manager: Manager, handle: u8, sum: u32) -> Played {
     let mut records = [0; Manager::BUS_OFF_NEEDS];
     let outcome = manager::bus_off(manager, handle, &mut records);
-    let next = outcome.manager;
-    if outcome.count == 0 {
-        return Played { manager: next, sum };
-    }
     Played {
-        manager: next,
-        sum: mix_recovery(sum, &records),
+        manager: outcome.manager,
+        sum: if outcome.count == 0 {
+            sum
+        } else {
+            mix_all(sum, &records)
+        },
     }
 }
 
@@ -88,59 +69,41 @@ fn play(manager: Manager, style: u8, rounds: u64, out: &mut [u8; Manager::TICK_N
     let mut current = manager;
     let mut sum: u32 = 0;
     let mut shutdown = false;
-    let mut round: u64 = 0;
-    while round < rounds {
+    for _ in 0..rounds {
         let ticked = manager::tick(current, out);
-        let count = ticked.count;
         current = ticked.manager;
-        let mut k: usize = 0;
-        while k < Manager::TICK_RECORDS {
-            if count <= k {
-                break;
-            }
-            let kind = byte_at(out, Record::SIZE * k);
-            let target = byte_at(out, Record::SIZE * k + 1);
-            let argument = byte_at(out, Record::SIZE * k + 2);
-            sum = mix_record(sum, kind, target, argument);
-            if kind == Record::CONTROLLER_MODE {
-                if style != DEAF {
-                    let answered = manager::controller_answer(
-                        current,
-                        target,
-                        argument,
-                        LastAnswer::OKAY,
-                    );
-                    current = answered.manager;
+        for record in out.chunks_exact(Record::SIZE).take(ticked.count) {
+            sum = mix_all(sum, record);
+            let &[kind, target, argument] = record else {
+                continue;
+            };
+            match kind {
+                Record::CONTROLLER_MODE if style != DEAF => {
+                    let okay = LastAnswer::OKAY;
+                    current = manager::controller_answer(current, target, argument, okay).manager;
                 }
-            } else if kind == Record::TRANSCEIVER_MODE {
-                let reported = manager::transceiver_mode(current, target, argument);
-                current = reported.manager;
-            } else if kind == Record::CLEAR_WAKE {
-                let cleared = manager::clear_done(current, target);
-                current = cleared.manager;
-            } else if kind == Record::CHECK_WAKE {
-                let checked = manager::check_done(current, target);
-                current = checked.manager;
-            } else if kind == Record::COMMUNICATION && argument == Mode::NO {
-                let requested = manager::request(current, target, Mode::FULL);
-                current = requested.manager;
-            } else if kind == Record::EVENTS
-                && argument == EventStatus::PASSED
-                && style == RESTLESS
-            {
-                if shutdown {
-                    let requested = manager::request(current, target, Mode::NO);
-                    current = requested.manager;
-                } else {
-                    let struck = strike(current, target, sum);
-                    current = struck.manager;
-                    sum = struck.sum;
+                Record::TRANSCEIVER_MODE => {
+                    current = manager::transceiver_mode(current, target, argument).manager;
                 }
-                shutdown = !shutdown;
+                Record::CLEAR_WAKE => current = manager::clear_done(current, target).manager,
+                Record::CHECK_WAKE => current = manager::check_done(current, target).manager,
+                Record::COMMUNICATION if argument == u8::from(Mode::No) => {
+                    current = manager::request(current, target, Mode::Full.into()).manager;
+                }
+                Record::EVENTS if argument == u8::from(EventStatus::Passed) && style == RESTLESS =>
+                    {
+                        if shutdown {
+                            current = manager::request(current, target, Mode::No.into()).manager;
+                        } else {
+                            let struck = strike(current, target, sum);
+                            current = struck.manager;
+                            sum = struck.sum;
+                        }
+                        shutdown = !shutdown;
+                    }
+                _ => {}
             }
-            k += 1;
         }
-        round += 1;
     }
     Played {
         manager: current,
@@ -148,51 +111,32 @@ fn play(manager: Manager, style: u8, rounds: u64, out: &mut [u8; Manager::TICK_N
     }
 }
 
-// Rounds of a tick alone.
-fn tick_alone(manager: Manager, rounds: u64, out: &mut [u8; Manager::TICK_NEEDS]) -> u32 {
-    let mut current = manager;
+// Rounds of a tick alone, of networks that have come to where they stay in a box of this style.
+fn settled_ticks(
+    manager: Manager,
+    style: u8,
+    rounds: u64,
+    out: &mut [u8; Manager::TICK_NEEDS],
+) -> u32 {
+    let mut current = play(manager, style, SETTLING, out).manager;
     let mut sum: u32 = 0;
-    let mut round: u64 = 0;
-    while round < rounds {
+    for _ in 0..rounds {
         let ticked = manager::tick(current, out);
         current = ticked.manager;
         sum = mix(sum, (ticked.count % BYTES) as u8);
-        round += 1;
-    }
-    sum
-}
-
-// Rounds of one answer: of each controller in turn, ok, and then of each refused.
-fn answer_alone(manager: Manager, controllers: u8, rounds: u64) -> u32 {
-    let mut current = manager;
-    let mut sum: u32 = 0;
-    let mut id: u8 = 0;
-    let mut ok: u8 = LastAnswer::OKAY;
-    let mut round: u64 = 0;
-    while round < rounds {
-        let answered = manager::controller_answer(current, id, ControllerMode::STOPPED, ok);
-        let answer = answered.answer;
-        current = answered.manager;
-        sum = mix(sum, answer.number());
-        id += 1;
-        if controllers <= id {
-            id = 0;
-            ok = LastAnswer::OKAY - ok;
-        }
-        round += 1;
     }
     sum
 }
 
 // Rounds of a box of this style.
+// The names of this function and of those after it stay: they are C's, and workload_c exports each under the same.
 pub fn proved_play(
     sheet: &[u8],
     style: u8,
     rounds: u64,
     out: &mut [u8; Manager::TICK_NEEDS],
 ) -> u32 {
-    let played = play(begin(sheet), style, rounds, out);
-    played.sum
+    play(begin(sheet), style, rounds, out).sum
 }
 
 // Ticks of networks that have come to where they stay in a box of this style.
@@ -202,8 +146,7 @@ pub fn proved_ticks(
     rounds: u64,
     out: &mut [u8; Manager::TICK_NEEDS],
 ) -> u32 {
-    let settled = play(begin(sheet), style, SETTLING, out);
-    tick_alone(settled.manager, rounds, out)
+    settled_ticks(begin(sheet), style, rounds, out)
 }
 
 // The same two with a manager that listens.
@@ -213,8 +156,7 @@ pub fn proved_quiet_play(
     rounds: u64,
     out: &mut [u8; Manager::TICK_NEEDS],
 ) -> u32 {
-    let played = play(quiet(begin(sheet), out), style, rounds, out);
-    played.sum
+    play(quiet(begin(sheet), out), style, rounds, out).sum
 }
 
 pub fn proved_quiet_ticks(
@@ -223,17 +165,29 @@ pub fn proved_quiet_ticks(
     rounds: u64,
     out: &mut [u8; Manager::TICK_NEEDS],
 ) -> u32 {
-    let settled = play(quiet(begin(sheet), out), style, SETTLING, out);
-    tick_alone(settled.manager, rounds, out)
+    settled_ticks(quiet(begin(sheet), out), style, rounds, out)
 }
 
-// Answers of controllers that were asked to stop.
+// Answers of controllers that were asked to stop: of each in turn, ok, and then of each refused.
 pub fn proved_answers(
     sheet: &[u8],
     controllers: u8,
     rounds: u64,
     out: &mut [u8; Manager::TICK_NEEDS],
 ) -> u32 {
-    let settled = play(begin(sheet), DEAF, SETTLING, out);
-    answer_alone(settled.manager, controllers, rounds)
+    let mut current = play(begin(sheet), DEAF, SETTLING, out).manager;
+    let mut sum: u32 = 0;
+    let mut id: u8 = 0;
+    let mut ok: u8 = LastAnswer::OKAY;
+    for _ in 0..rounds {
+        let answered = manager::controller_answer(current, id, ControllerMode::Stopped.into(), ok);
+        current = answered.manager;
+        sum = mix(sum, answered.number());
+        id += 1;
+        if controllers <= id {
+            id = 0;
+            ok = LastAnswer::OKAY - ok;
+        }
+    }
+    sum
 }

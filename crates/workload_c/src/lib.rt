@@ -1,4 +1,5 @@
 // The work of the crate workload under the names that C calls: speed/work.h declares them.
+// Stays one function for each, with their parameters side by side: they are the C interface.
 #![tactic(auto)]
 
 use manager::Manager;

@@ -1,55 +1,26 @@
 // Writing a sheet into a lent buffer, from its front. The length comes first, so that a refusal touches nothing.
 #![tactic(auto)]
 
-ghost use Rattle.std.specs.Prelude.{◌≡◌, [], ◌∷◌, ◌+◌, ◌*◌, ◌/◌, ◌%◌, ◌≤◌, min};
+ghost use Rattle.std.specs.Prelude.{◌≡◌, [], ◌≤◌};
 ghost use lib.ListN.{length};
 ghost use Rattle.std.proofs.lemmas.List.Edits.{sets};
-ghost use Rattle.lists.specs.Stores.{Stored};
-ghost use Rattle.settings.specs.Settings.{controllers_of, listed};
-ghost use Rattle.sheet.specs.Encode.{byte_field, times_field, encode_controllers, encode_transceiver, bit, encode_relation, encode_network, encode};
+ghost use Rattle.writing.specs.Writer.{Room, Puts};
+ghost use Rattle.settings.specs.Settings.{controllers_of};
+ghost use Rattle.sheet.specs.Encode.{byte_field, times_field, encode_controllers, encode_transceiver, encode_relation, encode_network, encode};
 ghost use Rattle.sheet.specs.Outcomes.{WriteOutcome};
 
 use entries::Entry;
-use fields::Field;
-use settings::{Network, Relation, Settings, Transceiver};
-use sheet::Written;
+use settings::{Network, Relation, Settings};
+use sheet::TooShort;
 
 // ---- lengths
-
-// A count, of which only so many have a slot.
-fn at_most(count: u8, slots: usize) -> usize
-    ensures { result ≡ min count slots }
-{
-    let all = count as usize;
-    if all < slots { all } else { slots }
-}
-
-fn transceiver_count(transceiver: Transceiver) -> usize
-    ensures { (result ≡ length (listed transceiver)) × (result ≤ 1) }
-{
-    match transceiver {
-        Transceiver::Absent => 0,
-        Transceiver::Present(_) => 1,
-    }
-}
-
-fn relation_count(relation: Relation) -> usize
-    ensures { (result * 4 ≡ length (encode_relation relation [])) × (result ≤ 1) }
-{
-    match relation {
-        Relation::Above => 0,
-        Relation::AtOrAbove => 1,
-    }
-}
 
 fn network_length(network: Network) -> usize
     ensures { (result ≡ length (encode_network network [])) × (result ≤ 45) }
 {
-    let controllers = at_most(network.count, Network::MOST_CONTROLLERS);
-    let transceiver = network.transceiver;
-    let transceivers = transceiver_count(transceiver);
-    let relation = network.relation;
-    let relations = relation_count(relation);
+    let controllers = lists::in_use(&network.controllers, network.count).len();
+    let transceivers = usize::from(network.transceiver.is_some());
+    let relations = usize::from(matches!(network.relation, Relation::AtOrAbove));
     Entry::FIXED_FIELDS + Entry::BYTE_FIELD * (controllers + transceivers + relations)
 }
 
@@ -57,118 +28,93 @@ fn network_length(network: Network) -> usize
 pub fn sheet_length(settings: Settings) -> usize
     ensures { result ≡ length (encode settings) }
 {
-    let count = at_most(settings.count, Settings::MOST_NETWORKS);
-    let networks = settings.networks;
-    let mut total: usize = 0;
-    let mut i: usize = 0;
-    while i < count {
-        let network = networks[i];
-        total += network_length(network);
-        i += 1;
+    let mut total = 0;
+    for network in lists::in_use(&settings.networks, settings.count) {
+        total += network_length(*network);
     }
     total
 }
 
-// ---- fields, each stored at a place with room for it; the answer is the place after it
+// ---- fields, each stored at the place of a writer with room for it
 
-// A number in two bytes, the high byte first.
-fn put_number(buffer: &mut [u8], at: usize, number: u16) -> usize
-    requires { at + 2 ≤ length buffer.old }
-    ensures { Stored buffer.old at (number / 256 ∷ number % 256 ∷ []) result buffer.new }
-{
-    buffer[at] = (number / Field::BYTE) as u8;
-    buffer[at + 1] = (number % Field::BYTE) as u8;
-    at + Field::NUMBER
+// A lent buffer, and the place in it up to which it is written. Stays beside `text::Line`: they share two fields and three lines.
+#[derive(Drop)]
+struct Writer<'a> {
+    buffer: &'a mut [u8],
+    place: usize,
 }
 
-// A tag and a length.
-fn put_head(buffer: &mut [u8], at: usize, tag: u8, length: u16) -> usize
-    requires { at + 3 ≤ lib.ListN.length buffer.old }
-    ensures { Stored buffer.old at (tag ∷ length / 256 ∷ length % 256 ∷ []) result buffer.new }
-{
-    buffer[at] = tag;
-    put_number(buffer, at + 1, length)
-}
-
-fn put_byte_field(buffer: &mut [u8], at: usize, tag: u8, value: u8) -> usize
-    requires { at + 4 ≤ length buffer.old }
-    ensures { Stored buffer.old at (byte_field tag value []) result buffer.new }
-{
-    put_head(buffer, at, tag, Entry::BYTE_LENGTH);
-    buffer[at + Field::HEAD] = value;
-    at + Entry::BYTE_FIELD
-}
-
-fn put_times(buffer: &mut [u8], at: usize, short: u16, long: u16, ensure: u16) -> usize
-    requires { at + 9 ≤ length buffer.old }
-    ensures { Stored buffer.old at (times_field short long ensure []) result buffer.new }
-{
-    let to = put_head(buffer, at, Entry::TIMES_TAG, Entry::TIMES_LENGTH);
-    let to = put_number(buffer, to, short);
-    let to = put_number(buffer, to, long);
-    put_number(buffer, to, ensure)
-}
-
-fn put_controllers(buffer: &mut [u8], at: usize, network: Network) -> usize
-    requires { at + length (encode_controllers (controllers_of network) []) ≤ length buffer.old }
-    ensures { Stored buffer.old at (encode_controllers (controllers_of network) []) result buffer.new }
-{
-    let count = at_most(network.count, Network::MOST_CONTROLLERS);
-    let ids = network.controllers;
-    let mut to = at;
-    let mut i: usize = 0;
-    while i < count {
-        to = put_byte_field(buffer, to, Entry::CONTROLLER_TAG, ids[i]);
-        i += 1;
+impl<'a> Writer<'a> {
+    fn put(&mut self, bytes: &[u8])
+        requires { Room self.old (length bytes.now) }
+        ensures { Puts self.old bytes.now self.new }
+    {
+        let next = self.place + bytes.len();
+        self.buffer[self.place..next].copy_from_slice(bytes);
+        self.place = next;
     }
-    to
-}
 
-fn put_transceiver(buffer: &mut [u8], at: usize, transceiver: Transceiver) -> usize
-    requires { at + length (encode_transceiver transceiver []) ≤ length buffer.old }
-    ensures { Stored buffer.old at (encode_transceiver transceiver []) result buffer.new }
-{
-    match transceiver {
-        Transceiver::Absent => at,
-        Transceiver::Present(id) => put_byte_field(buffer, at, Entry::TRANSCEIVER_TAG, id),
+    fn put_byte_field(&mut self, tag: u8, value: u8)
+        requires { Room self.old 4 }
+        ensures { Puts self.old (byte_field tag value []) self.new }
+    {
+        let [high, low] = Entry::BYTE_LENGTH.to_be_bytes();
+        self.put(&[tag, high, low, value]);
     }
-}
 
-fn partial_value(partial: bool) -> u8
-    ensures { result ≡ bit partial }
-{
-    if partial {
-        Entry::WITH_PARTIAL
-    } else {
-        Entry::WITHOUT_PARTIAL
+    fn put_times(&mut self, short: u16, long: u16, ensure: u16)
+        requires { Room self.old 9 }
+        ensures { Puts self.old (times_field short long ensure []) self.new }
+    {
+        let [high, low] = Entry::TIMES_LENGTH.to_be_bytes();
+        self.put(&[Entry::TIMES_TAG, high, low]);
+        self.put(&short.to_be_bytes());
+        self.put(&long.to_be_bytes());
+        self.put(&ensure.to_be_bytes());
     }
-}
 
-fn put_relation(buffer: &mut [u8], at: usize, relation: Relation) -> usize
-    requires { at + length (encode_relation relation []) ≤ length buffer.old }
-    ensures { Stored buffer.old at (encode_relation relation []) result buffer.new }
-{
-    match relation {
-        Relation::Above => at,
-        Relation::AtOrAbove => put_byte_field(buffer, at, Entry::RELATION_TAG, Entry::AT_OR_ABOVE),
+    fn put_controllers(&mut self, network: Network)
+        requires { Room self.old (length (encode_controllers (controllers_of network) [])) }
+        ensures { Puts self.old (encode_controllers (controllers_of network) []) self.new }
+    {
+        for id in lists::in_use(&network.controllers, network.count) {
+            self.put_byte_field(Entry::CONTROLLER_TAG, *id);
+        }
     }
-}
 
-// S3: a network's fields, in their order.
-fn put_network(buffer: &mut [u8], at: usize, network: Network) -> usize
-    requires { at + length (encode_network network []) ≤ length buffer.old }
-    ensures { Stored buffer.old at (encode_network network []) result buffer.new }
-{
-    let transceiver = network.transceiver;
-    let partial = partial_value(network.partial);
-    let relation = network.relation;
-    let to = put_byte_field(buffer, at, Entry::HANDLE_TAG, network.handle);
-    let to = put_controllers(buffer, to, network);
-    let to = put_transceiver(buffer, to, transceiver);
-    let to = put_times(buffer, to, network.short, network.long, network.ensure);
-    let to = put_byte_field(buffer, to, Entry::THRESHOLD_TAG, network.threshold);
-    let to = put_byte_field(buffer, to, Entry::PARTIAL_TAG, partial);
-    put_relation(buffer, to, relation)
+    fn put_transceiver(&mut self, transceiver: Option<u8>)
+        requires { Room self.old (length (encode_transceiver transceiver [])) }
+        ensures { Puts self.old (encode_transceiver transceiver []) self.new }
+    {
+        match transceiver {
+            None => {}
+            Some(id) => self.put_byte_field(Entry::TRANSCEIVER_TAG, id),
+        }
+    }
+
+    fn put_relation(&mut self, relation: Relation)
+        requires { Room self.old (length (encode_relation relation [])) }
+        ensures { Puts self.old (encode_relation relation []) self.new }
+    {
+        match relation {
+            Relation::Above => {}
+            Relation::AtOrAbove => self.put_byte_field(Entry::RELATION_TAG, Entry::AT_OR_ABOVE),
+        }
+    }
+
+    // S3: a network's fields, in their order.
+    fn put_network(&mut self, network: Network)
+        requires { Room self.old (length (encode_network network [])) }
+        ensures { Puts self.old (encode_network network []) self.new }
+    {
+        self.put_byte_field(Entry::HANDLE_TAG, network.handle);
+        self.put_controllers(network);
+        self.put_transceiver(network.transceiver);
+        self.put_times(network.short, network.long, network.ensure);
+        self.put_byte_field(Entry::THRESHOLD_TAG, network.threshold);
+        self.put_byte_field(Entry::PARTIAL_TAG, u8::from(network.partial));
+        self.put_relation(network.relation);
+    }
 }
 
 // ---- the sheet
@@ -177,25 +123,20 @@ fn put_networks(buffer: &mut [u8], settings: Settings)
     requires { length (encode settings) ≤ length buffer.old }
     ensures { buffer.new ≡ sets buffer.old 0 (encode settings) }
 {
-    let count = at_most(settings.count, Settings::MOST_NETWORKS);
-    let networks = settings.networks;
-    let mut to: usize = 0;
-    let mut i: usize = 0;
-    while i < count {
-        let network = networks[i];
-        to = put_network(buffer, to, network);
-        i += 1;
+    let mut writer = Writer { buffer, place: 0 };
+    for network in lists::in_use(&settings.networks, settings.count) {
+        writer.put_network(*network);
     }
 }
 
 // H4, R18: the sheet of the settings, into a buffer from its front; or refused, where fewer bytes were lent than the sheet has.
-pub fn write(settings: Settings, buffer: &mut [u8]) -> Written
+pub fn write(settings: Settings, buffer: &mut [u8]) -> Result<usize, TooShort>
     ensures { WriteOutcome settings buffer.old result buffer.new }
 {
     let length = sheet_length(settings);
     if buffer.len() < length {
-        return Written::Short;
+        return Err(TooShort);
     }
     put_networks(buffer, settings);
-    Written::Length(length)
+    Ok(length)
 }

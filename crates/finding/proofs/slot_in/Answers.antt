@@ -1,27 +1,37 @@
--- `finding::slot_in` meets its contract, by what the search knows.
-use Rattle.lists.proofs.Basics.{subst, sym, ◌∙◌}
-use Rattle.finding.proofs.Searching.{Facts, begins, steps, ends, slot_below}
+-- `finding::slot_in` meets its contract.
+use Rattle.std.specs.Prelude.{Option, Some, None, Ok}
+use Rattle.std.specs.Option.{ok_or}
+use Rattle.lists.proofs.Basics.{◌≡◌, ℕ, refl, sym, ap, ◌∙◌, rules}
+use Rattle.settings.specs.declared.Id.{Id}
+use Rattle.settings.specs.Settings.{holder_of}
+use Rattle.slots.specs.declared.CallRefusal.{CallRefusal}
+use Rattle.slots.specs.declared.Manager.{Manager}
+use Rattle.slots.specs.declared.Stage.{Stage}
+use Rattle.slots.specs.Manager.{networks_of}
+use Rattle.slots.specs.Calls.{unknown, slot_at, slot_of}
 use Rattle.finding.proofs.slot_in.Goals as goal
 
-pub loop-search-init : goal.loop-search-init
-loop-search-init c = subst (Facts c.args.id c.args.manager.now) (sym c.begin-search.ensures) (begins c.args.id c.args.manager.now)
+-- the slot of a place that was found, or the refusal
+by_place : (id : Id) (place : Option ℕ) → ok_or place (unknown id) ≡ slot_at id place
+by_place id (Some i) = refl
+by_place id None = refl
 
-pub loop-search-preserved : goal.loop-search-preserved
-loop-search-preserved c =
-    let m = c.args.manager.now in
-    let eight = c.has_eight_slots.ensures in
-    subst (Facts c.args.id m) (sym c.tried_in-search.ensures)
-    (steps c.args.id m c.loop-search.search c.loop-search.invariant eight (sym c.goes_on.ensures ∙ c.loop-search-test.true))
+by_holder : (m : Manager) (id : Id) → m.stage ≡ Stage.Started → ok_or (holder_of id (networks_of m)) (unknown id) ≡ slot_of m id
+unfolding slot_of
+by_holder m id e = rw e (by_place id _)
 
-pub returns-clause-found : goal.returns-clause-found
-returns-clause-found c =
-    let m = c.args.manager.now in
-    let eight = c.has_eight_slots.ensures in
-    c.slot_found.ensures ∙ ends c.args.id m c.loop-search.search c.loop-search.invariant eight (sym c.goes_on.ensures ∙ c.loop-search-test.false)
+-- it is the place that was found
+same_place : (place : Option ℕ) (refusal : CallRefusal) (i : ℕ) → ok_or place refusal ≡ Ok i → place ≡ Some i
+same_place (Some j) refusal i e = cc
+same_place None refusal i e = cc
 
-pub returns-clause-below : goal.returns-clause-below
-returns-clause-below c =
-    let m = c.args.manager.now in
-    let eight = c.has_eight_slots.ensures in
-    let found = c.slot_found.ensures ∙ ends c.args.id m c.loop-search.search c.loop-search.invariant eight (sym c.goes_on.ensures ∙ c.loop-search-test.false) in
-    λ i e. slot_below c.args.id m eight i (sym found ∙ e)
+pub returns-in-Empty : goal.returns-in-Empty
+unfolding slot_of
+returns-in-Empty c = search rules
+
+pub returns-in-Started-clause-found : goal.returns-in-Started-clause-found
+returns-in-Started-clause-found c =
+    c.ok_or.ensures.value ∙ rw (c.holder.ensures.found, c.unknown.ensures) (by_holder c.args.manager.now c.args.id c.in-Started.is)
+
+pub returns-in-Started-clause-below : goal.returns-in-Started-clause-below
+returns-in-Started-clause-below c = λ i e. c.holder.ensures.below i (same_place _ _ i (sym c.ok_or.ensures.value ∙ e))

@@ -1,23 +1,41 @@
--- `grammar::takes_relation` meets its contract: the last network is the one before the first slot that is not in use.
-use Rattle.lists.proofs.Basics.{◌-◌, suc, arith, ◌≡◌, refl, sym, ◌∙◌, length, length-take, take, rules}
+-- `grammar::takes_relation` meets its contract: the last network in use is the last one of the list.
+use Rattle.lists.proofs.Basics.{suc, ◌-◌, arith, ◌≡◌, refl, sym, ap, ◌∙◌, List, [], ◌∷◌, Bool, false, length}
+use Rattle.std.specs.Prelude.{Some, None, slice_get}
 use Rattle.lists.specs.Lists.{lastly}
-use Rattle.lists.proofs.Any.{lastly_take}
 use Rattle.settings.specs.declared.Network.{Network}
 use Rattle.entries.specs.Grammar.{is_above, takes_relation}
 use Rattle.grammar.proofs.takes_relation.Goals as goal
 
-pub returns-then-used-eq0 : goal.returns-then-used-eq0
-unfolding takes_relation lastly
-returns-then-used-eq0 c =
-    let s = c.args.settings in
-    let none : s.count ≡ 0 = omega (arith, c.in_use-used.ensures, c.if-used-eq0.true) in
-    rw none refl
+module _ {A : Type 0} (p : A → Bool) where
+  lastly_some : (l : List A) (x : A) → Some x ≡ slice_get l (length l - 1) → lastly p l ≡ p x
+  unfolding lastly
+  lastly_some [] x e = absurd cc
+  lastly_some (y ∷ []) x e = let same : y ≡ x = cc in ap p same
+  lastly_some (y ∷ z ∷ l) x e =
+      let i : length (y ∷ z ∷ l) - 1 ≡ suc (length (z ∷ l) - 1) = omega arith in lastly_some (z ∷ l) x (rw i at e)
 
-pub returns : goal.returns
+  lastly_none : (l : List A) → None ≡ slice_get l (length l - 1) → lastly p l ≡ false
+  unfolding lastly
+  lastly_none [] e = refl
+  lastly_none (y ∷ []) e = absurd cc
+  lastly_none (y ∷ z ∷ l) e =
+      let i : length (y ∷ z ∷ l) - 1 ≡ suc (length (z ∷ l) - 1) = omega arith in lastly_none (z ∷ l) (rw i at e)
+
+abbrev above : Network → Bool
+above n = is_above n.relation
+
+pub returns-in-Above : goal.returns-in-Above
 unfolding takes_relation
-returns c =
-    let s = c.args.settings in
-    let e : length s.networks ≡ 8 = search rules in
-    let n : length (take s.count s.networks) ≡ suc (c.in_use-used.result - 1) =
-    omega (arith, length-take s.count s.networks, e, c.in_use-used.ensures, c.if-used-eq0.false) in
-    c.is_above.ensures ∙ sym (lastly_take (λ (n : Network). is_above n.relation) s.networks s.count _ _ n)
+returns-in-Above c =
+    let e = rw (c.in_use.ensures, c.in-Some.is) at c.last.ensures.value in
+    sym (lastly_some above _ c.in-Some.network.now e ∙ rw c.in-Above.is refl)
+
+pub returns-in_default : goal.returns-in_default
+unfolding takes_relation
+returns-in_default c =
+    let e = rw (c.in_use.ensures, c.in-Some.is) at c.last.ensures.value in
+    sym (lastly_some above _ c.in-Some.network.now e ∙ rw c.in_default.is refl)
+
+pub returns-in-None : goal.returns-in-None
+unfolding takes_relation
+returns-in-None c = sym (lastly_none above _ (rw (c.in_use.ensures, c.in-None.is) at c.last.ensures.value))

@@ -9,19 +9,19 @@ pub listen_started-requires : goal.listen_started-requires
 listen_started-requires c =
     let a = c.args in
     open_roomy
-    a.manager _ _ (ap (gate_of a.manager _) (sym c.listen_needs.ensures) ∙ sym c.gate_of.ensures ∙ c.in-Open.is)
+    a.manager _ _ (ap (gate_of a.manager _) (sym c.listen_needs.ensures) ∙ sym c.gate_of.ensures ∙ c.in-Ok.is)
 
-pub returns-in-Refused : goal.returns-in-Refused
+pub returns-in-Err : goal.returns-in-Err
 unfolding outcome by_rules
-returns-in-Refused c =
+returns-in-Err c =
     let a = c.args in
     gate_shut _ _ _ _ _ _ _ _ _
-    (c.gate_of.ensures ∙ ap (gate_of a.manager _) c.listen_needs.ensures) c.in-Refused.is c.refuse.ensures refl refl
+    (c.gate_of.ensures ∙ ap (gate_of a.manager _) c.listen_needs.ensures) c.in-Err.is c.refuse.ensures refl refl
 
-pub returns-in-Open : goal.returns-in-Open
+pub returns-in-Ok : goal.returns-in-Ok
 unfolding outcome by_rules
-returns-in-Open c =
+returns-in-Ok c =
     let a = c.args in
     listen_open _ _ _ _ _ _ _ _ _
-    (c.gate_of.ensures ∙ ap (gate_of a.manager _) c.listen_needs.ensures) c.in-Open.is
+    (c.gate_of.ensures ∙ ap (gate_of a.manager _) c.listen_needs.ensures) c.in-Ok.is
     c.listen_started.ensures refl refl

@@ -1,9 +1,9 @@
 -- `manager_cases::run_calls` is safe and ends.
-use Rattle.std.proofs.Common.{◌-◌, ◌≤◌, length}
+use Rattle.std.proofs.Common.{◌+◌, ◌≤◌, length}
 use Rattle.manager_cases.proofs.run_calls.Given as goal
 
-abbrev pub invariant-loop-at : goal.invariant-loop-at
-invariant-loop-at g l = (l.at ≤ length l.input) × (l.number ≤ l.at)
+abbrev pub invariant-loop-call : goal.invariant-loop-call
+invariant-loop-call g l = l.number + length l.rest ≤ length l.input
 
-abbrev pub decreases-loop-at : goal.decreases-loop-at
-decreases-loop-at g l = length l.input - l.at
+abbrev pub decreases-loop-call : goal.decreases-loop-call
+decreases-loop-call g l = length l.rest

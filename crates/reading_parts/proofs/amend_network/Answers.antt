@@ -11,9 +11,9 @@ unfolding amended
 returns c =
     let s = c.args.settings in
     let e : length s.networks ≡ 8 = search rules in
-    let place : c.in_use-used.result - 1 ≡ last_place s = omega (arith, length-take s.count s.networks, e, c.in_use-used.ensures, c.requires) in
-    let last : ℕ = c.in_use-used.result - 1 in
-    let within : last < length s.networks = omega (arith, e, c.in_use-used.ensures) in
+    let last : ℕ = length c.in_use.result.now - 1 in
+    let place : last ≡ last_place s = rw c.in_use.ensures refl in
+    let within : last < length s.networks = omega (arith, length-take s.count s.networks, e, place) in
     let stored : c.add_relation.result ≡ add_relation (get_or s.networks last blank_network) =
     c.add_relation.ensures ∙ ap add_relation (get_d_any s.networks last _ blank_network within) in
     rw (← place, stored) refl

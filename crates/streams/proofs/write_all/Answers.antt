@@ -1,14 +1,20 @@
 -- What one write more took stands after what was written before it.
-use Rattle.std.proofs.Common.{◌≡◌, ℕ, ◌+◌, ◌-◌, List, ◌++◌, rules, length, take, drop, sym, ap, ◌∙◌, subst}
-use Rattle.std.proofs.lemmas.List.{take_rest}
+use Rattle.std.proofs.Common.{◌≡◌, ℕ, ◌+◌, List, ◌++◌, take, drop, sym, ap, ◌∙◌, subst}
+use Rattle.std.proofs.lemmas.List.{take_rest, drop-drop}
 use Rattle.std.proofs.Math.Seq.{take-add}
 use Rattle.std.specs.Io.KnownBytes.{Appends}
 use Rattle.std.proofs.KnownBytes.{Appends-trans}
 use Rattle.streams.proofs.write_all.Goals as goal
 
-joined : (i n : ℕ) (s : List ℕ) → take i s ++ take n (take (length s - i) (drop i s)) ≡ take (i + n) s
-joined i n s = ap (λ l. take i s ++ take n l) (take_rest s i) ∙ sym (take-add i n s)
+joined : (n k : ℕ) (s rest : List ℕ) → rest ≡ drop n s → take n s ++ take k rest ≡ take (n + k) s
+joined n k s rest is = ap (λ l. take n s ++ take k l) is ∙ sym (take-add n k s)
 
-pub loop-done-preserved : goal.loop-done-preserved
-loop-done-preserved g c =
-    (search rules, subst (Appends _ _) (joined c.loop-done.done c.in_ok-count.count c.args.bytes.now) (Appends-trans _ _ _ _ _ c.loop-done.invariant.1 c.in_ok-count.ensures.bytes))
+pub loop-rest-preserved : goal.loop-rest-preserved
+loop-rest-preserved g c =
+    let n = c.loop-rest.invariant.0 in
+    let is = c.loop-rest.invariant.1 in
+    let count = c.in_ok-count.count in (
+      n + count,
+      take_rest c.loop-rest.rest.now count ∙ ap (drop count) is ∙ drop-drop count n c.args.bytes.now,
+      subst (Appends _ _) (joined n count c.args.bytes.now _ is) (Appends-trans _ _ _ _ _ c.loop-rest.invariant.2 c.in_ok-count.ensures.bytes),
+    )

@@ -1,36 +1,38 @@
--- `writing::put_networks` meets its contract: the first `i` networks are stored.
-use Rattle.lists.proofs.Basics.{◌-◌, arith, rules, ◌≡◌, ap, ◌∙◌, List, [], length, sets}
-use Rattle.lists.proofs.Parts.{take_min}
-use Rattle.lists.proofs.Stores.{stored_none, stored_more, room_more}
+-- `writing::put_networks` meets its contract: the first networks are stored.
+use Rattle.lists.proofs.Basics.{◌≤◌, arith, ap, ◌∙◌, List, [], length, take, take_all, sets}
+use Rattle.lists.proofs.Stores.{room_more}
 use Rattle.settings.specs.declared.Network.{Network}
 use Rattle.sheet.specs.Encode.{encode_networks, encode}
 use Rattle.sheet.proofs.Writes.{networks_append}
+use Rattle.writing.proofs.Puts.{puts_none, puts_more}
 use Rattle.writing.proofs.put_networks.Goals as goal
 
-pub loop-i-init : goal.loop-i-init
+pub loop-network-init : goal.loop-network-init
 unfolding encode_networks
-loop-i-init c = (omega arith, stored_none _ _)
+loop-network-init c = puts_none _
 
-pub put_network-to-requires : goal.put_network-to-requires
+pub put_network-requires : goal.put_network-requires
 unfolding encode_networks encode
-put_network-to-requires c =
-    let l = c.loop-i in let e : length c.args.settings.networks ≡ 8 = search rules in
+put_network-requires c =
+    let l = c.loop-network in
+    let ns = c.in_use-network-items.result.now in
+    let room : length (encode_networks (take (length ns) ns) []) ≤ length c.args.buffer.now =
+    rw (take_all (length ns) ns (omega arith), c.in_use-network-items.ensures) c.requires in
     room_more (λ (ns : List Network). encode_networks ns []) networks_append
-    c.args.settings.networks l.i _ (omega arith) l.invariant.1 c.args.settings.count (omega arith) (omega (arith, c.requires))
+    ns l.network-index _ c.loop-network-test.true l.invariant.stored (length ns) c.loop-network-test.true (omega (arith, room))
 
-pub loop-i-preserved : goal.loop-i-preserved
+pub loop-network-preserved : goal.loop-network-preserved
 unfolding encode_networks
-loop-i-preserved c =
-    let l = c.loop-i in
-    let e : length c.args.settings.networks ≡ 8 = search rules in (
-      omega arith,
-      stored_more (λ (ns : List Network). encode_networks ns []) networks_append
-          c.args.settings.networks l.i _ (omega arith) l.invariant.1 c.put_network-to.ensures,
-    )
+loop-network-preserved c =
+    let l = c.loop-network in
+    puts_more (λ (ns : List Network). encode_networks ns []) networks_append
+    c.in_use-network-items.result.now l.network-index _ c.loop-network-test.true l.invariant c.put_network.ensures
 
 pub returns : goal.returns
 unfolding encode
 returns c =
-    let l = c.loop-i in let e : length c.args.settings.networks ≡ 8 = search rules in
-    l.invariant.1.buffer ∙ ap (λ (ns : List Network). sets c.args.buffer.now 0 (encode_networks ns []))
-    (take_min c.args.settings.networks c.args.settings.count l.i (omega arith))
+    let l = c.loop-network in
+    let ns = c.in_use-network-items.result.now in
+    let e = l.invariant.stored.buffer ∙ ap (λ (ns : List Network). sets c.args.buffer.now 0 (encode_networks ns []))
+    (take_all l.network-index ns (omega arith) ∙ c.in_use-network-items.ensures) in
+    grind (arith, e)

@@ -11,8 +11,8 @@ overflow_add-at c =
     let r = row_further a.bytes.now a.at _ _ _ (sym c.field_at.ensures ∙ c.in-Whole.is) in
     omega arith
 
-pub whole_entry-entry-requires : goal.whole_entry-entry-requires
-whole_entry-entry-requires c =
+pub whole_entry-requires : goal.whole_entry-requires
+whole_entry-requires c =
     let a = c.args in
     let r = row_further a.bytes.now a.at _ _ _ (sym c.field_at.ensures ∙ c.in-Whole.is) in
     omega arith
@@ -28,9 +28,9 @@ returns-in-Stub c = read_at _ (sym c.field_at.ensures ∙ c.in-Stub.is) refl ref
 pub returns-in-Overrun : goal.returns-in-Overrun
 unfolding entry_at
 returns-in-Overrun c =
-    read_at _ (sym c.field_at.ensures ∙ c.in-Overrun.is) (ap Bad c.overrun_fault-fault.ensures) refl
+    read_at _ (sym c.field_at.ensures ∙ c.in-Overrun.is) (ap Bad c.overrun_fault.ensures) refl
 
 pub returns-in-Whole : goal.returns-in-Whole
 unfolding entry_at
 returns-in-Whole c =
-    read_at _ (sym c.field_at.ensures ∙ c.in-Whole.is) c.whole_entry-entry.ensures refl
+    read_at _ (sym c.field_at.ensures ∙ c.in-Whole.is) c.whole_entry.ensures refl

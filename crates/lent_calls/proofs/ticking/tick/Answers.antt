@@ -8,19 +8,19 @@ pub tick_started-requires : goal.tick_started-requires
 tick_started-requires c =
     let a = c.args in
     open_roomy
-    a.manager _ _ (ap (gate_of a.manager _) (sym c.tick_needs.ensures) ∙ sym c.gate_of.ensures ∙ c.in-Open.is)
+    a.manager _ _ (ap (gate_of a.manager _) (sym c.tick_needs.ensures) ∙ sym c.gate_of.ensures ∙ c.in-Ok.is)
 
-pub returns-in-Refused : goal.returns-in-Refused
+pub returns-in-Err : goal.returns-in-Err
 unfolding outcome by_rules
-returns-in-Refused c =
+returns-in-Err c =
     let a = c.args in
     gate_shut _ _ _ _ _ _ _ _ _
-    (c.gate_of.ensures ∙ ap (gate_of a.manager _) c.tick_needs.ensures) c.in-Refused.is c.refuse.ensures refl refl
+    (c.gate_of.ensures ∙ ap (gate_of a.manager _) c.tick_needs.ensures) c.in-Err.is c.refuse.ensures refl refl
 
-pub returns-in-Open : goal.returns-in-Open
+pub returns-in-Ok : goal.returns-in-Ok
 unfolding outcome by_rules all_ticked
-returns-in-Open c =
+returns-in-Ok c =
     let a = c.args in
     let t = c.tick_started.ensures in
     gate_open _ _ _ _ _ _ _ _ _
-    (c.gate_of.ensures ∙ ap (gate_of a.manager _) c.tick_needs.ensures) c.in-Open.is t.0 t.1 refl refl
+    (c.gate_of.ensures ∙ ap (gate_of a.manager _) c.tick_needs.ensures) c.in-Ok.is t.0 t.1 refl refl

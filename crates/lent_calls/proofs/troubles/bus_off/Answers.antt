@@ -6,15 +6,15 @@ use Rattle.slots.specs.Calls.{outcome, by_rules}
 use Rattle.lent_calls.proofs.troubles.bus_off.Goals as goal
 
 pub strike_started-requires : goal.strike_started-requires
-strike_started-requires c = open_roomy _ _ 9 (sym c.gate_of.ensures ∙ c.in-Open.is)
+strike_started-requires c = open_roomy _ _ 9 (sym c.gate_of.ensures ∙ c.in-Ok.is)
 
-pub returns-in-Refused : goal.returns-in-Refused
+pub returns-in-Err : goal.returns-in-Err
 unfolding outcome by_rules
-returns-in-Refused c =
-    gate_shut _ _ _ _ _ _ _ _ _ c.gate_of.ensures c.in-Refused.is c.refuse.ensures refl refl
+returns-in-Err c =
+    gate_shut _ _ _ _ _ _ _ _ _ c.gate_of.ensures c.in-Err.is c.refuse.ensures refl refl
 
-pub returns-in-Open : goal.returns-in-Open
+pub returns-in-Ok : goal.returns-in-Ok
 unfolding outcome by_rules
-returns-in-Open c =
-    trouble_open _ _ _ _ _ Trouble.BusOff _ _ _ c.gate_of.ensures c.in-Open.is
+returns-in-Ok c =
+    trouble_open _ _ _ _ _ Trouble.BusOff _ _ _ c.gate_of.ensures c.in-Ok.is
     c.strike_started.ensures refl refl

@@ -2,6 +2,6 @@
 use Rattle.lent_calls.proofs.Ticks.{slot_shut}
 use Rattle.lent_calls.proofs.troubles.strike_started.Goals as goal
 
-pub returns-in-Refused : goal.returns-in-Refused
-returns-in-Refused c =
-    slot_shut _ _ _ _ _ _ _ c.slot_of.ensures c.in-Refused.is c.refuse.ensures
+pub returns-in-Err : goal.returns-in-Err
+returns-in-Err c =
+    slot_shut _ _ _ _ _ _ _ c.slot_in.ensures.found c.in-Err.is c.refuse.ensures

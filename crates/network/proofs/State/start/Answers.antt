@@ -4,4 +4,4 @@ use Rattle.network.proofs.State.start.Goals as goal
 
 pub returns : goal.returns
 unfolding started
-returns c = simp (c.first_down-step.ensures, c.no_answers-answers.ensures)
+returns c = simp c.first_down.ensures

@@ -4,8 +4,8 @@ use Rattle.network.proofs.answers.takes.Goals as goal
 
 pub returns-then-state : goal.returns-then-state
 unfolding takes_report
-returns-then-state c = simp (c.if-state.true, c.asks-ask.ensures, c.is_awaited.ensures)
+returns-then-state c = simp (c.if-state.true, c.asks.ensures, c.is_awaited.ensures)
 
-pub returns : goal.returns
+pub returns-else-state : goal.returns-else-state
 unfolding takes_report
-returns c = simp c.if-state.false
+returns-else-state c = simp c.if-state.false

@@ -3,12 +3,12 @@ use Rattle.lists.proofs.Basics.{sym, ◌∙◌}
 use Rattle.network.specs.Parts.{wanted_part}
 use Rattle.network.proofs.parts.want_mode.Goals as goal
 
-pub returns-in-Taken : goal.returns-in-Taken
+pub returns-in-Ok : goal.returns-in-Ok
 unfolding wanted_part
-returns-in-Taken c =
-    simp (sym c.request_reply.ensures ∙ c.in-Taken.is, c.want.ensures, c.take.ensures)
+returns-in-Ok c =
+    simp (sym c.request_reply.ensures ∙ c.in-Ok.is, c.want.ensures, c.take.ensures)
 
-pub returns-in-Refused : goal.returns-in-Refused
+pub returns-in-Err : goal.returns-in-Err
 unfolding wanted_part
-returns-in-Refused c =
-    simp (sym c.request_reply.ensures ∙ c.in-Refused.is, c.decline.ensures)
+returns-in-Err c =
+    simp (sym c.request_reply.ensures ∙ c.in-Err.is, c.decline.ensures)

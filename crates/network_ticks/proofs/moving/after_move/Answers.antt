@@ -7,17 +7,16 @@ pub returns-then-keeps_answers : goal.returns-then-keeps_answers
 unfolding after_move
 returns-then-keeps_answers c =
     let kept = sym c.keeps_answers.ensures ∙ c.if-keeps_answers.true in
-    simp (c.step_after-step.ensures, c.told_after-told.ensures, c.count_after-count.ensures, c.asks_after-asked.ensures, kept)
+    simp (c.step_after.ensures, c.told_after.ensures, c.count_after.ensures, c.asks_after.ensures, kept)
 
 pub returns : goal.returns
 unfolding after_move
 returns c =
     let kept = sym c.keeps_answers.ensures ∙ c.if-keeps_answers.false in
     simp (
-      c.step_after-step.ensures,
-      c.told_after-told.ensures,
-      c.count_after-count.ensures,
-      c.asks_after-asked.ensures,
+      c.step_after.ensures,
+      c.told_after.ensures,
+      c.count_after.ensures,
+      c.asks_after.ensures,
       kept,
-      c.no_answers-answers.ensures,
     )

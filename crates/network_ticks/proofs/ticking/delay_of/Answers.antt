@@ -7,6 +7,6 @@ pub returns-then-is_long : goal.returns-then-is_long
 unfolding delay_of
 returns-then-is_long c = simp (sym c.is_long.ensures ∙ c.if-is_long.true)
 
-pub returns : goal.returns
+pub returns-else-is_long : goal.returns-else-is_long
 unfolding delay_of
-returns c = simp (sym c.is_long.ensures ∙ c.if-is_long.false)
+returns-else-is_long c = simp (sym c.is_long.ensures ∙ c.if-is_long.false)

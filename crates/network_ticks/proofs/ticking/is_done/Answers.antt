@@ -1,6 +1,9 @@
 -- `network_ticks::ticking::is_done` meets its contract.
 use Rattle.lists.proofs.Basics.{sym, ◌∙◌}
-use Rattle.network.specs.Rules.{is_done}
+use mathlib.Core.Logic.{inl, inr}
+use Rattle.lists.proofs.Any.{every-list}
+use Rattle.network.specs.State.{heard_of}
+use Rattle.network.specs.Rules.{is_okay, is_done}
 use Rattle.network_ticks.proofs.ticking.is_done.Goals as goal
 
 pub returns-in-Nothing : goal.returns-in-Nothing
@@ -10,20 +13,17 @@ returns-in-Nothing c = simp (c.if-state.true, sym c.asks.ensures ∙ c.in-Nothin
 pub returns-in-Controllers : goal.returns-in-Controllers
 unfolding is_done
 returns-in-Controllers c =
-    simp (c.if-state.true, sym c.asks.ensures ∙ c.in-Controllers.is, c.all_okay.ensures)
+    simp (c.if-state.true, sym c.asks.ensures ∙ c.in-Controllers.is, c.all_okay.ensures ∙ sym (every-list is_okay (heard_of c.args.network c.args.state)))
 
 pub returns-in-Transceiver : goal.returns-in-Transceiver
 unfolding is_done
-returns-in-Transceiver c = simp (c.if-state.true, sym c.asks.ensures ∙ c.in-Transceiver.is)
+returns-in-Transceiver c =
+    elim c.in-Transceiver.is [
+      | inl w ↦ simp (c.if-state.true, sym c.asks.ensures ∙ w.1)
+      | inr (inl w) ↦ simp (c.if-state.true, sym c.asks.ensures ∙ w)
+      | inr (inr w) ↦ simp (c.if-state.true, sym c.asks.ensures ∙ w)
+    ]
 
-pub returns-in-ClearWake : goal.returns-in-ClearWake
+pub returns-else-state : goal.returns-else-state
 unfolding is_done
-returns-in-ClearWake c = simp (c.if-state.true, sym c.asks.ensures ∙ c.in-ClearWake.is)
-
-pub returns-in-CheckWake : goal.returns-in-CheckWake
-unfolding is_done
-returns-in-CheckWake c = simp (c.if-state.true, sym c.asks.ensures ∙ c.in-CheckWake.is)
-
-pub returns : goal.returns
-unfolding is_done
-returns c = simp c.if-state.false
+returns-else-state c = simp c.if-state.false

@@ -1,12 +1,12 @@
 -- `quiet_calls::requesting::poll` meets its contract.
-use Rattle.lists.proofs.Basics.{sym, ◌∙◌}
+use Rattle.lists.proofs.Basics.{rules}
 use Rattle.slots.specs.Calls.{outcome}
 use Rattle.quiet_calls.proofs.requesting.poll.Goals as goal
 
-pub returns-in-Refused : goal.returns-in-Refused
+pub returns-in-Err : goal.returns-in-Err
 unfolding outcome
-returns-in-Refused c = simp (sym c.slot_of.ensures ∙ c.in-Refused.is, c.refuse.ensures)
+returns-in-Err c = search rules
 
-pub returns-in-At : goal.returns-in-At
+pub returns-in-Ok : goal.returns-in-Ok
 unfolding outcome
-returns-in-At c = simp (sym c.slot_of.ensures ∙ c.in-At.is, c.poll_at.ensures)
+returns-in-Ok c = search rules

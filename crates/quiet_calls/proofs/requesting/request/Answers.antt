@@ -6,14 +6,14 @@ use Rattle.network.specs.Parts.{a_request, request_part, part_of, records_of}
 use Rattle.network.specs.declared.State.{State}
 use Rattle.quiet_calls.proofs.requesting.request.Goals as goal
 
-pub returns-in-Refused : goal.returns-in-Refused
+pub returns-in-Err : goal.returns-in-Err
 unfolding outcome named
-returns-in-Refused c =
-    slot_refused _ _ _ _ _ _ c.slot_of.ensures c.in-Refused.is c.refuse.ensures
+returns-in-Err c =
+    slot_refused _ _ _ _ _ _ c.slot_in.ensures.found c.in-Err.is c.refuse.ensures
 
-pub returns-in-At : goal.returns-in-At
+pub returns-in-Ok : goal.returns-in-Ok
 unfolding outcome named part_of records_of
-returns-in-At c =
+returns-in-Ok c =
     let a = c.args in
-    slot_settled _ _ (a_request a.mode) _ _ _ _ c.slot_of.ensures c.in-At.is
+    slot_settled _ _ (a_request a.mode) _ _ _ _ c.slot_in.ensures.found c.in-Ok.is
     (c.request_part.ensures ∙ ap (λ (t : State). request_part t a.mode) c.state_at.ensures) refl c.settle.ensures

@@ -1,16 +1,21 @@
--- `records::Record::turn` meets its contract.
-use Rattle.lists.proofs.Basics.{sym, eq-eqb, ne_eqb}
-use Rattle.records.specs.Records.{turned}
+-- `records::Record::turn` meets its contract: a record is the one of PDU mode online for its own target if its kind and its argument are.
+use Rattle.lists.proofs.Basics.{ℕ, ◌≡◌, ap, sym, ◌∙◌, true, ◌&&◌, eqb, arith}
+use Rattle.records.specs.declared.Record.{Record}
+use Rattle.records.specs.Records.{handed, turned, is_online}
 use Rattle.records.proofs.Record.turn.Goals as goal
 
-pub returns-then-self-eq-ONLINE : goal.returns-then-self-eq-ONLINE
-unfolding turned
-returns-then-self-eq-ONLINE c = simp (eq-eqb _ _ (sym c.if-self-eq-PDU_MODE.true), eq-eqb _ _ (sym c.if-self-eq-ONLINE.true))
+same_test : (r : Record) → (eqb r.kind 3 && (eqb r.target r.target && eqb r.argument 0)) ≡ is_online r
+same_test r = grind arith
 
-pub returns-else-self-eq-ONLINE : goal.returns-else-self-eq-ONLINE
-unfolding turned
-returns-else-self-eq-ONLINE c = simp (eq-eqb _ _ (sym c.if-self-eq-PDU_MODE.true), ne_eqb _ _ (λ e. c.if-self-eq-ONLINE.false (sym e)))
+online_kind : (r : Record) → is_online r ≡ true → r.kind ≡ 3
+online_kind r e = grind arith
 
-pub returns-else-self-eq-PDU_MODE : goal.returns-else-self-eq-PDU_MODE
+pub returns-then-eq : goal.returns-then-eq
 unfolding turned
-returns-else-self-eq-PDU_MODE c = simp (ne_eqb _ _ (λ e. c.if-self-eq-PDU_MODE.false (sym e)))
+returns-then-eq c =
+    let e = sym (same_test c.args.self) ∙ sym (rw c.pdu_mode.ensures at c.eq.ensures) ∙ c.if-eq.true in
+    simp e (ap (λ (kind : ℕ). handed kind c.args.self.target 2) (online_kind c.args.self e))
+
+pub returns : goal.returns
+unfolding turned
+returns c = simp (sym (same_test c.args.self) ∙ sym (rw c.pdu_mode.ensures at c.eq.ensures) ∙ c.if-eq.false)

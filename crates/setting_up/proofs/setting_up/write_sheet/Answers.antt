@@ -6,6 +6,6 @@ use Rattle.setting_up.proofs.setting_up.write_sheet.Goals as goal
 
 pub returns : goal.returns
 returns c =
-    let w = c.write-answer.ensures in
+    let w = c.write.ensures in
     let a = c.args in
     (c.after_writing.ensures ∙ ap (after_writing a.manager) w.0 ∙ written_in_room a.manager _, w.1)

@@ -1,5 +1,5 @@
 -- `setting_up::starting::start_networks` meets its contract: the records of the first `i` networks are at the start.
-use Rattle.lists.proofs.Basics.{◌-◌, ◌≤◌, ◌≡◌, length, take}
+use Rattle.lists.proofs.Basics.{◌≡◌, length, take}
 use Rattle.settings.specs.declared.Network.{Network}
 use Rattle.network.specs.declared.State.{State}
 use Rattle.network.specs.State.{started}
@@ -8,7 +8,7 @@ use Rattle.setting_up.proofs.starting.start_networks.Given as goal
 
 abbrev pub invariant-loop-i : goal.invariant-loop-i
 invariant-loop-i l =
-    (l.i ≤ l.used) × (length l.states ≡ 8) × (l.states ≡ each (λ (n : Network) (s : State). started n) (take l.i l.networks) l.initial.states)
-
-abbrev pub decreases-loop-i : goal.decreases-loop-i
-decreases-loop-i l = l.used - l.i
+    record {
+      eight : length l.states ≡ 8;
+      records : l.states ≡ each (λ (n : Network) (s : State). started n) (take l.i l.network-items) l.initial.states;
+    }

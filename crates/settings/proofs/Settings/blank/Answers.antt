@@ -8,4 +8,4 @@ use Rattle.settings.proofs.Settings.blank.Goals as goal
 pub returns : goal.returns
 unfolding blank_settings
 returns c =
-    ap (λ (n : Network). let s : Settings = record { networks = replicate 8 n; count = 0 } in s) c.blank-network.ensures
+    ap (λ (n : Network). let s : Settings = record { networks = replicate 8 n; count = 0 } in s) c.blank.ensures

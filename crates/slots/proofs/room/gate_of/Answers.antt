@@ -1,20 +1,16 @@
 -- `slots::room::gate_of` meets its contract.
-use Rattle.lists.proofs.Basics.{lt-ltb, le-ltb}
+use Rattle.lists.proofs.Basics.{lt-ltb, le-ltb, rules}
 use Rattle.slots.specs.Calls.{gate_of}
 use Rattle.slots.proofs.room.gate_of.Goals as goal
 
-pub returns-then-room-needs : goal.returns-then-room-needs
-unfolding gate_of
-returns-then-room-needs c = simp (c.in-Started.is, lt-ltb _ _ c.if-room-needs.true)
-
 pub returns-in-Empty : goal.returns-in-Empty
 unfolding gate_of
-returns-in-Empty c = simp c.in-Empty.is
+returns-in-Empty c = search rules
 
-pub returns-in-Loaded : goal.returns-in-Loaded
+pub returns-in-Started : goal.returns-in-Started
 unfolding gate_of
-returns-in-Loaded c = simp c.in-Loaded.is
+returns-in-Started c = search (rules, lt-ltb)
 
-pub returns-else-room-needs : goal.returns-else-room-needs
+pub returns-in-Started-2 : goal.returns-in-Started-2
 unfolding gate_of
-returns-else-room-needs c = simp (c.in-Started.is, le-ltb _ _ c.if-room-needs.false)
+returns-in-Started-2 c = search (rules, le-ltb)

@@ -1,11 +1,12 @@
 -- `slots::settling::settle` meets its contract.
+use Rattle.lists.proofs.Basics.{rules}
 use Rattle.slots.specs.Calls.{settled}
 use Rattle.slots.proofs.settling.settle.Goals as goal
 
-pub returns-in-Taken : goal.returns-in-Taken
+pub returns-in-Ok : goal.returns-in-Ok
 unfolding settled
-returns-in-Taken c = simp (c.in-Taken.is, c.with_state.ensures)
+returns-in-Ok c = search rules
 
-pub returns-in-Refused : goal.returns-in-Refused
+pub returns-in-Err : goal.returns-in-Err
 unfolding settled
-returns-in-Refused c = simp (c.in-Refused.is, c.refuse.ensures)
+returns-in-Err c = search rules

@@ -1,6 +1,6 @@
 -- `trace::running::run` meets its contract: what stands in the block waits to be written, and after it come the lines that are left. What came
 -- before it in the output is written.
-use Rattle.lists.proofs.Basics.{arith, sym, ap, subst, ◌∙◌, length, take}
+use Rattle.lists.proofs.Basics.{arith, refl, sym, ap, subst, ◌∙◌, length, take}
 use Rattle.std.proofs.Common.{take_all}
 use Rattle.std.specs.Io.KnownBytes.{Appends}
 use Rattle.std.proofs.KnownBytes.{Appends-nil}
@@ -27,7 +27,7 @@ returns-then-input-gt-MOST_BYTES-clause-all g c =
 
 pub loop-point-init : goal.loop-point-init
 loop-point-init g c =
-    (first_waits c.args.input.now c.if-input-gt-MOST_BYTES.false c.empty_block-block.ensures c.first_line-point.ensures, Appends-nil _)
+    (first_waits c.args.input.now c.if-input-gt-MOST_BYTES.false refl c.first_line-point.ensures, Appends-nil _)
 
 pub put_next-requires-in-loop-point-clause-next : goal.put_next-requires-in-loop-point-clause-next
 put_next-requires-in-loop-point-clause-next g c = filled_next c.loop-point.invariant.0 c.fill-point.ensures
