@@ -8,6 +8,7 @@ use settings::Id;
 use slots::{CallRefusal, Manager, Stage};
 
 // R7, R10 to R12: the slot of the first network that has this id, in a started manager that is lent.
+#[tactic(auto, using(crate::proofs::Slots::started_slot, crate::proofs::Slots::same_place), unfolding(slots::specs::Calls::slot_of))]
 pub fn slot_in(manager: &Manager, id: Id) -> Result<usize, CallRefusal>
     ensures found { result ≡ slot_of manager.now id }
     ensures below { (i : ℕ) → result ≡ Ok i → i < 8 }
@@ -18,9 +19,14 @@ pub fn slot_in(manager: &Manager, id: Id) -> Result<usize, CallRefusal>
     }
 }
 
-// The same for callers that have the manager by value. Stays: it is public, and has a promise of its own.
+// The same for callers that have the manager by value, and change nothing of it: the settings alone are looked at in memory.
+#[tactic(auto, using(crate::proofs::Slots::started_slot), unfolding(slots::specs::Calls::slot_of))]
 pub fn slot_of(manager: Manager, id: Id) -> Result<usize, CallRefusal>
     ensures { result ≡ slot_of manager id }
 {
-    slot_in(&manager, id)
+    if manager.stage != Stage::Started {
+        return Err(CallRefusal::NotReady);
+    }
+    let settings = manager.settings;
+    settings.holder(id).ok_or(CallRefusal::unknown(id))
 }

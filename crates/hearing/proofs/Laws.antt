@@ -14,8 +14,7 @@ use Rattle.network.specs.Parts.{part_of, report_part, records_of, said, addresse
 use Rattle.network_theorems.proofs.Parts.{by_request, by_answer, by_report}
 use Rattle.slots.specs.declared.CallRefusal.{CallRefusal}
 use Rattle.slots.specs.declared.Manager.{Manager}
-use Rattle.slots.specs.declared.Outcome.{Outcome}
-use Rattle.slots.specs.Manager.{Answer, network_at, state_at, with_state, blank_state}
+use Rattle.slots.specs.Manager.{Answer, network_at, state_at, with_state, blank_state, answered}
 use Rattle.slots.specs.Calls.{slot_of, answer_of, call_of, outcome, named, slot_outcome, settled, Hears}
 use Rattle.hearing.specs.Heard.{HeardAt}
 
@@ -54,22 +53,18 @@ by_name m (Message.TransceiverMode transceiver mode) = refl
 by_name m (Message.ClearDone transceiver) = refl
 by_name m (Message.CheckDone transceiver) = refl
 
--- an answer and the manager after it, as an outcome that counts nothing
-abbrev answered : Answer → Manager → Outcome
-answered answer m = record { answer = answer; manager = m; count = 0; mode = 0; place = 0 }
-
 stored : (m : Manager) (i : ℕ) (reply : Result Unit Refusal) (s : State) (rs : List Record) → rs ≡ [] → (is_taken reply ≡ false → s ≡ state_at m i) →
-    answered (answer_of reply) (with_state m i s) ≡ settled m i reply s (length rs)
+    answered (with_state m i s) (answer_of reply) ≡ settled m i reply s (length rs)
 unfolding settled
 stored m i (Ok tt) s rs none stays = rw none refl
 stored m i (Err refusal) s rs none stays =
     rw (stays refl)
-    (ap (λ (states : List State). answered (answer_of (Err refusal)) (record {
+    (ap (λ (states : List State). answered (record {
       stage = m.stage;
       listening = m.listening;
       settings = m.settings;
       states = states;
-    })) (set-get_or m.states i blank_state))
+    }) (answer_of (Err refusal))) (set-get_or m.states i blank_state))
 
 module _ (m : Manager) (message : Message) where
   pub unknown_hears : (refusal : CallRefusal) → slot_of m (addressee message) ≡ Err refusal → Hears m message (Err refusal) m

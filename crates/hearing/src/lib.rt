@@ -41,6 +41,7 @@ fn answer_of(reply: Result<(), Refusal>) -> Answer
 }
 
 // R6, K7: the answer to a message; the manager that is lent is the next one afterwards.
+#[tactic(auto, using(crate::proofs::Laws::unknown_hears))]
 pub fn hear(manager: &mut Manager, message: Message) -> Answer
     ensures { Hears manager.old message result manager.new }
 {

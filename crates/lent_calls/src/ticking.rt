@@ -52,7 +52,7 @@ pub fn tick(manager: Manager, out: &mut [u8]) -> Outcome
     ensures { calls.Gives manager (calls.tick (length out.old)) out.old result out.new }
 {
     match gate_of(manager, out.len(), tick_needs(manager)) {
-        Err(refusal) => Outcome::refuse(manager, refusal),
+        Err(refusal) => Outcome::refuse(manager, Err(refusal)),
         Ok(()) => tick_started(manager, out),
     }
 }

@@ -29,7 +29,7 @@ fn strike_started(manager: Manager, id: Id, trouble: Trouble, out: &mut [u8]) ->
     ensures { calls.SlotGives manager (calls.slot_of manager id) (sight_of trouble) out.old result out.new }
 {
     match slot_in(&manager, id) {
-        Err(refusal) => Outcome::refuse(manager, refusal),
+        Err(refusal) => Outcome::refuse(manager, Err(refusal)),
         Ok(at) => strike_at(manager, at, trouble, out),
     }
 }
@@ -41,7 +41,7 @@ pub fn bus_off(manager: Manager, id: u8, out: &mut [u8]) -> Outcome
     ensures { calls.Gives manager (calls.bus_off id (length out.old)) out.old result out.new }
 {
     match gate_of(manager, out.len(), Manager::BUS_OFF_NEEDS) {
-        Err(refusal) => Outcome::refuse(manager, refusal),
+        Err(refusal) => Outcome::refuse(manager, Err(refusal)),
         Ok(()) => strike_started(manager, Id::OfController(id), Trouble::BusOff, out),
     }
 }
@@ -51,7 +51,7 @@ pub fn stall(manager: Manager, handle: u8, out: &mut [u8]) -> Outcome
     ensures { calls.Gives manager (calls.stall handle (length out.old)) out.old result out.new }
 {
     match gate_of(manager, out.len(), Manager::STALL_NEEDS) {
-        Err(refusal) => Outcome::refuse(manager, refusal),
+        Err(refusal) => Outcome::refuse(manager, Err(refusal)),
         Ok(()) => strike_started(manager, Id::OfNetwork(handle), Trouble::Stall, out),
     }
 }

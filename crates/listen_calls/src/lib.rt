@@ -53,7 +53,7 @@ fn listen_started(manager: Manager, value: u8, out: &mut [u8]) -> Outcome
         ≡ calls.buffer_with out.old (map (turned result.manager.listening) (calls.by_value value [] (calls.online_anew manager)))) }
 {
     if Manager::LISTENS < value {
-        return Outcome::refuse(manager, CallRefusal::OutOfRange);
+        return Outcome::refuse(manager, Err(CallRefusal::OutOfRange));
     }
     set_listening(manager, Manager::LISTENS == value, out)
 }
@@ -63,7 +63,7 @@ pub fn listen(manager: Manager, value: u8, out: &mut [u8]) -> Outcome
     ensures { calls.Gives manager (calls.listen value (length out.old)) out.old result out.new }
 {
     match gate_of(manager, out.len(), listen_needs(manager)) {
-        Err(refusal) => Outcome::refuse(manager, refusal),
+        Err(refusal) => Outcome::refuse(manager, Err(refusal)),
         Ok(()) => listen_started(manager, value, out),
     }
 }

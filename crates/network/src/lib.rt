@@ -164,6 +164,9 @@ impl From<Refusal> for u8 {
 }
 
 impl State {
+    // B2: the most bus-offs that are counted: the largest number of its type, at which `saturating_add` stays.
+    pub const MOST_BUS_OFFS: u8 = 255;
+
     // No controller has answered.
     pub const NO_ANSWERS: [LastAnswer; Network::MOST_CONTROLLERS] =
         [LastAnswer::Pending; Network::MOST_CONTROLLERS];

@@ -13,7 +13,7 @@ pub fn controller_answer(manager: Manager, id: u8, mode: u8, ok: u8) -> Outcome
     ensures { result ≡ calls.outcome manager (calls.answer id mode ok) }
 {
     match slot_in(&manager, Id::OfController(id)) {
-        Err(refusal) => Outcome::refuse(manager, refusal),
+        Err(refusal) => Outcome::refuse(manager, Err(refusal)),
         Ok(at) => settle(
             manager,
             at,
@@ -28,7 +28,7 @@ fn take_report(manager: Manager, id: u8, report: Report) -> Outcome
     ensures { result ≡ calls.named manager (Id.OfTransceiver id) (a_report report) }
 {
     match slot_in(&manager, Id::OfTransceiver(id)) {
-        Err(refusal) => Outcome::refuse(manager, refusal),
+        Err(refusal) => Outcome::refuse(manager, Err(refusal)),
         Ok(at) => settle(
             manager,
             at,

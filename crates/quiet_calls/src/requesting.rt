@@ -3,7 +3,7 @@ ghost use Rattle.std.specs.Prelude.{◌≡◌};
 ghost use Rattle.slots.specs.Manager.{state_at};
 ghost use Rattle.slots.specs.Calls as calls;
 
-use finding::slot_in;
+use finding::{slot_in, slot_of};
 use settings::Id;
 use slots::{Manager, Outcome, settle};
 
@@ -13,7 +13,7 @@ pub fn request(manager: Manager, handle: u8, mode: u8) -> Outcome
     ensures { result ≡ calls.outcome manager (calls.request handle mode) }
 {
     match slot_in(&manager, Id::OfNetwork(handle)) {
-        Err(refusal) => Outcome::refuse(manager, refusal),
+        Err(refusal) => Outcome::refuse(manager, Err(refusal)),
         Ok(at) => settle(
             manager,
             at,
@@ -36,8 +36,8 @@ fn poll_at(manager: Manager, at: usize) -> Outcome
 pub fn poll(manager: Manager, handle: u8) -> Outcome
     ensures { result ≡ calls.outcome manager (calls.poll handle) }
 {
-    match slot_in(&manager, Id::OfNetwork(handle)) {
-        Err(refusal) => Outcome::refuse(manager, refusal),
+    match slot_of(manager, Id::OfNetwork(handle)) {
+        Err(refusal) => Outcome::refuse(manager, Err(refusal)),
         Ok(at) => poll_at(manager, at),
     }
 }

@@ -45,7 +45,7 @@ fn after_reading(manager: Manager, reading: Reading) -> Outcome
         },
         Err(fault) => Outcome {
             place: reading.place,
-            ..Outcome::refuse(manager, CallRefusal::Sheet(fault))
+            ..Outcome::refuse(manager, Err(CallRefusal::Sheet(fault)))
         },
     }
 }
@@ -56,7 +56,7 @@ pub fn read(manager: Manager, bytes: &[u8]) -> Outcome
 {
     match manager.stage {
         Stage::Empty | Stage::Loaded => after_reading(manager, reading::read(bytes)),
-        Stage::Started => Outcome::refuse(manager, CallRefusal::Running),
+        Stage::Started => Outcome::refuse(manager, Err(CallRefusal::Running)),
     }
 }
 
@@ -68,7 +68,7 @@ fn after_writing(manager: Manager, answer: Result<usize, TooShort>) -> Outcome
             count: length,
             ..Outcome::accept(manager)
         },
-        Err(TooShort) => Outcome::refuse(manager, CallRefusal::TooShort),
+        Err(TooShort) => Outcome::refuse(manager, Err(CallRefusal::TooShort)),
     }
 }
 
@@ -84,7 +84,7 @@ pub fn write(manager: Manager, buffer: &mut [u8]) -> Outcome
     ensures { calls.Writes manager buffer.old result buffer.new }
 {
     match manager.stage {
-        Stage::Empty => Outcome::refuse(manager, CallRefusal::NotReady),
+        Stage::Empty => Outcome::refuse(manager, Err(CallRefusal::NotReady)),
         Stage::Loaded | Stage::Started => write_sheet(manager, buffer),
     }
 }

@@ -29,8 +29,8 @@ pub fn start(manager: Manager) -> Outcome
     ensures { result ≡ calls.outcome manager calls.start }
 {
     match manager.stage {
-        Stage::Empty => Outcome::refuse(manager, CallRefusal::NotReady),
+        Stage::Empty => Outcome::refuse(manager, Err(CallRefusal::NotReady)),
         Stage::Loaded => Outcome::accept(start_networks(manager).with_listening(false)),
-        Stage::Started => Outcome::refuse(manager, CallRefusal::Running),
+        Stage::Started => Outcome::refuse(manager, Err(CallRefusal::Running)),
     }
 }

@@ -19,6 +19,26 @@ impl From<TooShort> for u8 {
     }
 }
 
+// R1, R9: the number of what writing a sheet gives.
+pub fn written_number(written: Result<usize, TooShort>) -> u8
+    ensures { result ≡ written_number written }
+{
+    match written {
+        Ok(_) => 0,
+        Err(short) => short.into(),
+    }
+}
+
+// R1: the number of what reading says of a sheet.
+pub fn verdict_number(verdict: Result<(), Fault>) -> u8
+    ensures { result ≡ verdict_number verdict }
+{
+    match verdict {
+        Ok(()) => 0,
+        Err(fault) => fault.into(),
+    }
+}
+
 // What reading a sheet gives: it is accepted, or why not. Stays a struct, with the answer a `Result` in it: the place is told beside both answers, and
 // `decode`, `refused_at` and the theorems on them speak of the blank settings beside a refusal.
 #[derive(Clone, Copy)]
@@ -33,9 +53,6 @@ impl Reading {
     pub fn number(self) -> u8
         ensures { result ≡ verdict_number self.answer }
     {
-        match self.answer {
-            Ok(()) => 0,
-            Err(fault) => fault.into(),
-        }
+        verdict_number(self.answer)
     }
 }

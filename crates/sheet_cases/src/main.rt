@@ -75,10 +75,8 @@ impl<W: Write> Lines<'_, W> {
     {
         let mut buffer = [FILL; ROOM];
         let written = writing::write(settings, &mut buffer[..lent]);
-        let (answer, length) = match written {
-            Ok(length) => (0, length),
-            Err(short) => (u8::from(short), 0),
-        };
+        let answer = sheet::written_number(written);
+        let length = written.unwrap_or(0);
         write!(self.out, "{} {name} {answer} {length} ", self.case)?;
         printing::put_hex(self.out, &buffer, shown)?;
         writeln!(self.out)

@@ -1,7 +1,8 @@
 -- What a call does to the network that it names, and a tick to each: what that network makes of it, by its own record, in its own slot.
 use Rattle.std.specs.Prelude.{Result, Ok, Err}
-use Rattle.lists.proofs.Basics.{ℕ, zero, suc, ◌<◌, arith, ◌≡◌, refl, ap, ◌∙◌, List, [], ◌∷◌, true, false, false≢true, true≢false, length, get_or}
+use Rattle.lists.proofs.Basics.{ℕ, zero, suc, ◌<◌, ◌≤◌, arith, ◌≡◌, refl, sym, ap, ◌∙◌, List, [], ◌∷◌, true, false, false≢true, true≢false, length, get_or}
 use Rattle.lists.proofs.Basics.{length-take, get_or-take}
+use lib.Seq.{set_out}
 use Rattle.settings.specs.declared.Network.{Network}
 use Rattle.settings.specs.declared.Id.{Id}
 use Rattle.settings.specs.Settings.{blank_network}
@@ -44,6 +45,12 @@ module _ (m : Manager) (i : ℕ) (sight : Sight) where
   pub named_at : (id : Id) → slot_of m id ≡ Ok i → named m id sight ≡ slot_outcome m i sight
   unfolding named
   named_at id e = ap (λ (slot : Result ℕ CallRefusal). by_slot m slot (λ j. slot_outcome m j sight)) e
+
+-- past the slots nothing is stored
+pub with_state_out : (m : Manager) (i : ℕ) (s : State) → length m.states ≡ 8 → 8 ≤ i → m ≡ with_state m i s
+with_state_out m i s e h =
+    let k : length m.states ≤ i = omega arith in
+    λ j. record { stage = m.stage; listening = m.listening; settings = m.settings; states = sym (set_out m.states i s k) j }
 
 -- ---- each network
 -- the network of a slot in use

@@ -76,9 +76,13 @@ abbrev pub with_listening : Manager → Bool → Manager
 with_listening m listening =
     record { stage = m.stage; listening = listening; settings = m.settings; states = m.states }
 
--- R2 to R4: refused, the manager stays as it was; the count, the polled mode and the place are 0
+-- R2 to R4: beside this answer the manager stays as it was; the count, the polled mode and the place are 0
+abbrev pub answered : Manager → Answer → Outcome
+answered m answer = record { answer = answer; manager = m; count = 0; mode = 0; place = 0 }
+
+-- R2 to R4: refused, and nothing changes
 abbrev pub refused : Manager → CallRefusal → Outcome
-refused m refusal = record { answer = Err refusal; manager = m; count = 0; mode = 0; place = 0 }
+refused m refusal = answered m (Err refusal)
 
 -- accepted with a count, of records or of bytes written; only a poll gives a mode and only a read a place
 abbrev pub accepted : Manager → ℕ → Outcome

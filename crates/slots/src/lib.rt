@@ -6,7 +6,7 @@ mod room;
 mod settling;
 
 ghost use Rattle.std.specs.Prelude.{◌≡◌};
-ghost use Rattle.slots.specs.Manager.{call_refusal_number, answer_number, blank_state, refused, accepted, network_at, state_at, with_state, with_listening};
+ghost use Rattle.slots.specs.Manager.{call_refusal_number, answer_number, blank_state, answered, accepted, network_at, state_at, with_state, with_listening};
 ghost use Rattle.slots.specs.Calls.{unknown};
 
 use entries::Fault;
@@ -120,18 +120,25 @@ impl Outcome {
     pub fn number(&self) -> u8
         ensures { result ≡ answer_number self.now.answer }
     {
-        match self.answer {
+        Outcome::number_of(self.answer)
+    }
+
+    // R1, R7 to R12, K6: the number of an answer by itself, as `hearing::hear` gives it.
+    pub fn number_of(answer: Answer) -> u8
+        ensures { result ≡ answer_number answer }
+    {
+        match answer {
             Ok(()) => Outcome::ACCEPTED,
             Err(refusal) => u8::from(refusal),
         }
     }
 
-    // R2 to R4: the manager stays as it was, and the count, the polled mode and the place are 0.
-    pub fn refuse(manager: Manager, refusal: CallRefusal) -> Outcome
-        ensures { result ≡ refused manager refusal }
+    // R2 to R4: beside this answer the manager stays as it was, and the count, the polled mode and the place are 0.
+    pub fn refuse(manager: Manager, answer: Answer) -> Outcome
+        ensures { result ≡ answered manager answer }
     {
         Outcome {
-            answer: Err(refusal),
+            answer,
             ..Outcome::accept(manager)
         }
     }
@@ -179,11 +186,12 @@ impl Manager {
             .unwrap_or(Network::blank())
     }
 
-    // The record of a slot; past the slots it is blank.
+    // The record of a slot; past the slots it is blank. The records alone are copied: the rest of the manager need not lie in memory for it.
     pub fn state_at(&self, at: usize) -> State
         ensures { result ≡ state_at self.now at }
     {
-        self.states.get(at).copied().unwrap_or(blank_state())
+        let states = self.states;
+        states.get(at).copied().unwrap_or(blank_state())
     }
 
     // The manager with the record of one network new.

@@ -14,6 +14,6 @@ pub fn settle(manager: Manager, at: usize, part: Part, count: usize) -> Outcome
             count,
             ..Outcome::accept(manager.with_state(at, part.state))
         },
-        Err(refusal) => Outcome::refuse(manager, CallRefusal::Network(refusal)),
+        Err(refusal) => Outcome::refuse(manager, Err(CallRefusal::Network(refusal))),
     }
 }

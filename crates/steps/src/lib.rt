@@ -170,6 +170,9 @@ fn row(number: u8, phase: Phase, ask: Ask, timer: Timer) -> Profile
 }
 
 impl Step {
+    // The most ticks that a timed step counts: the largest number of its type, at which `saturating_add` stays.
+    pub const MOST_TICKS: u16 = 65535;
+
     // N1, N2: the table of the steps. Stays a table by match: a step has its ticks inside, so it is no index, and the check sees that no step is missing.
     fn profile(self) -> Profile
         ensures { result ≡ profile_of self }
